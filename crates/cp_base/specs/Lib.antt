@@ -1,0 +1,7 @@
+pub mod Answer
+pub mod Buffer
+pub mod Built
+pub mod Checks
+pub mod Configuration
+pub mod Pieces
+pub mod Region
