@@ -8,6 +8,7 @@ mod lists;
 mod no_memory;
 mod region;
 mod replies;
+mod sequence;
 
 pub use buffer::Bytes;
 pub use commands::Command;
@@ -16,3 +17,4 @@ pub use lists::{CopySource, MAX_ITEMS, MemRange, RangeList, SourceList};
 pub use no_memory::NoMemory;
 pub use region::{ByteRange, MAX_NAMESPACE, SpaceId};
 pub use replies::{Piece, Refusal, Reply, Status};
+pub use sequence::Sequence;
