@@ -170,6 +170,22 @@ impl Config {
         self.budget
     }
 
+    /// The sizes of the NVM namespaces in blocks, in order of their numbers; 0 where there is none.
+    pub fn nvm(&self) -> &[u32]
+        ensures value { result.now ≡ self.now.nvm }
+        ensures limits { IsWithinLimits self.now }
+    {
+        &self.nvm
+    }
+
+    /// The sizes of the memory namespaces in bytes, in order of their numbers; 0 where there is none.
+    pub fn mem(&self) -> &[u32]
+        ensures value { result.now ≡ self.now.mem }
+        ensures limits { IsWithinLimits self.now }
+    {
+        &self.mem
+    }
+
     /// How many bytes a namespace has. `None` where there is no such namespace.
     pub fn size(&self, space: SpaceId) -> Option<u64>
         ensures { result ≡ size_of self.now space }

@@ -3,11 +3,8 @@
 -- numbers of slots and sets and the opening state are this project's own.
 use Rattle.std.specs.Prelude.{ℕ, ◌*◌, ◌==◌, nat_lt, Bool, not, List, [], ◌∷◌, ◌++◌, Option, unwrap_or, map, filter, find, option_map, replicate, slice_get, slice_set}
 use Rattle.std.specs.List.{list_any, range_with_len}
-use Rattle.cp_base.specs.Configuration.{Configuration, numbered, with_numbered}
-use Rattle.cp_base.specs.Pieces.{piece, patched}
-use Rattle.cp_base.specs.Region.{Region}
-use Rattle.cp_base.specs.declared.region.SpaceId.{SpaceId}
-use Rattle.cp_base.specs.declared.region.SpaceId.TheVariants as space
+use Rattle.cp_base.specs.Configuration.{Configuration}
+use Rattle.cp_base.specs.Contents.{Contents, all_zero}
 use Rattle.cp_base.specs.declared.lists.MemRange.{MemRange}
 
 -- a program slot: empty, or a program's bytes of which some may be missing, active or not
@@ -20,45 +17,15 @@ pub record RangeSet : Type 0 where
   pub number : ℕ
   pub ranges : List MemRange
 
--- The bytes of each namespace in order of numbers from 1, without bytes where there is no such
--- namespace; the slots in order of numbers from 0; the sets in order of their numbers.
+-- the bytes of the namespaces; the slots in order of numbers from 0; the sets in order of their numbers
 pub record State : Type 0 where
-  pub nvm : List (List ℕ)
-  pub mem : List (List ℕ)
+  pub contents : Contents
   pub slots : List Slot
   pub sets : List RangeSet
 
 -- the state at the start: all bytes are 0, all 64 slots are empty, there is no set
 abbrev pub opening : Configuration → State
-opening c = record {
-  nvm = map (λ blocks. replicate (blocks * c.block) 0) c.nvm;
-  mem = map (λ bytes. replicate bytes 0) c.mem;
-  slots = replicate 64 Empty;
-  sets = [];
-}
-
--- the bytes of a namespace
-abbrev pub bytes_of : State → SpaceId → List ℕ
-bytes_of s (space.Nvm n) = unwrap_or (numbered s.nvm n) []
-bytes_of s (space.Mem n) = unwrap_or (numbered s.mem n) []
-
--- the state with other bytes in a namespace
-abbrev pub with_bytes : State → SpaceId → List ℕ → State
-with_bytes s (space.Nvm n) bytes = record s { nvm = with_numbered s.nvm n bytes }
-with_bytes s (space.Mem n) bytes = record s { mem = with_numbered s.mem n bytes }
-
--- the state with these bytes in a namespace from place start on
-abbrev pub put : State → SpaceId → ℕ → List ℕ → State
-put s space start bytes = with_bytes s space (patched (bytes_of s space) start bytes)
-
--- the bytes of a region
-abbrev pub bytes_in : State → Region → List ℕ
-bytes_in s region = piece (bytes_of s region.space) region.start region.len
-
--- the bytes of the regions, one after the other
-abbrev pub joined : State → List Region → List ℕ
-joined s [] = []
-joined s (region ∷ regions) = bytes_in s region ++ joined s regions
+opening c = record { contents = all_zero c; slots = replicate 64 Empty; sets = [] }
 
 -- the slot of a number, where there is one
 abbrev pub slot_at : State → ℕ → Option Slot
