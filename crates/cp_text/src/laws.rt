@@ -14,8 +14,7 @@ pub fn number_laws()
     ensures one_number { (m n : ℕ) → m < 2 ^ 64 → n < 2 ^ 64 → decimal m ≡ decimal n → m ≡ n }
     ensures digits { (n : ℕ) → n < 2 ^ 64 → AreDigits (decimal n) }
     ensures len { (n : ℕ) → n < 2 ^ 64 → (1 ≤ length (decimal n)) × (length (decimal n) ≤ 20) }
-{
-}
+{}
 
 /// A text is read as a signed number exactly where it is the one text of that number, of 64 bits. This
 /// text is 1 to 20 bytes, digits or a minus, and another number has another.
@@ -25,8 +24,7 @@ pub fn signed_laws()
     ensures one_number { (y z : ℤ) → FitsSigned w64 y → FitsSigned w64 z → signed_decimal y ≡ signed_decimal z → y ≡ z }
     ensures digits { (z : ℤ) → FitsSigned w64 z → AreSignedDigits (signed_decimal z) }
     ensures len { (z : ℤ) → FitsSigned w64 z → (1 ≤ length (signed_decimal z)) × (length (signed_decimal z) ≤ 20) }
-{
-}
+{}
 
 /// A text is read as bytes exactly where it is the one text of these bytes. It has two digits a byte,
 /// and other bytes have another.
@@ -36,8 +34,7 @@ pub fn hex_laws()
     ensures one_list { (a b : List ℕ) → AreBytes a → AreBytes b → hex_text a ≡ hex_text b → a ≡ b }
     ensures digits { (bytes : List ℕ) → AreBytes bytes → AreHexDigits (hex_text bytes) }
     ensures len { (bytes : List ℕ) → length (hex_text bytes) ≡ 2 * length bytes }
-{
-}
+{}
 
 /// What some texts are read as: numbers at the limits, and texts that are nearly numbers.
 pub fn number_examples()
@@ -49,8 +46,7 @@ pub fn number_examples()
     ensures too_large { number_of (codes "18446744073709551616") ≡ None }
     ensures plus { number_of (codes "+1") ≡ None }
     ensures space_behind { number_of (codes "1 ") ≡ None }
-{
-}
+{}
 
 /// The same of signed numbers.
 pub fn signed_examples()
@@ -62,8 +58,7 @@ pub fn signed_examples()
     ensures too_large { signed_of (codes "9223372036854775808") ≡ None }
     ensures least { signed_of (codes "-9223372036854775808") ≡ Some (negsuc 9223372036854775807) }
     ensures too_small { signed_of (codes "-9223372036854775809") ≡ None }
-{
-}
+{}
 
 /// The same of bytes, and how bytes are written.
 pub fn hex_examples()
@@ -73,5 +68,4 @@ pub fn hex_examples()
     ensures odd { hex_of (codes "0a0") ≡ None }
     ensures no_digit { hex_of (codes "0g") ≡ None }
     ensures written { hex_text (10 ∷ 255 ∷ []) ≡ codes "0aff" }
-{
-}
+{}

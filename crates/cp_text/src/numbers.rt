@@ -25,8 +25,8 @@ pub fn number(text: &[u8]) -> Option<u64>
 fn with_digit(value: u64, byte: u8) -> Option<u64>
     ensures { result
         ≡ (if is_ascii_digit byte && nat_lt (extended value byte) (2 ^ 64)
-            then Some (extended value byte)
-            else None) }
+        then Some (extended value byte)
+        else None) }
 {
     if !byte.is_ascii_digit() {
         return None;
