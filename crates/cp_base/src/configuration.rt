@@ -188,7 +188,8 @@ impl Config {
 
     /// How many bytes a namespace has. `None` where there is no such namespace.
     pub fn size(&self, space: SpaceId) -> Option<u64>
-        ensures { result ≡ size_of self.now space }
+        ensures value { result ≡ size_of self.now space }
+        ensures bounded { IfSome result (λ bytes. bytes ≤ 16777216) }
     {
         match space {
             SpaceId::Nvm(n) => present(self.block, numbered(&self.nvm, n)?),

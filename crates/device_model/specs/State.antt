@@ -1,7 +1,7 @@
 -- The state of the device: the bytes of its namespaces, its program slots and its sets.
 -- Source: the NVMe Subsystem Local Memory and Computational Programs Command Sets 1.0 in outline; the
 -- numbers of slots and sets and the opening state are this project's own.
-use Rattle.std.specs.Prelude.{ℕ, ◌*◌, ◌==◌, nat_lt, Bool, not, List, [], ◌∷◌, ◌++◌, Option, unwrap_or, map, filter, find, option_map, replicate, slice_get, slice_set}
+use Rattle.std.specs.Prelude.{ℕ, ◌==◌, nat_lt, Bool, not, List, [], ◌∷◌, ◌++◌, Option, filter, find, option_map, replicate, slice_get, slice_set}
 use Rattle.std.specs.List.{list_any, range_with_len}
 use Rattle.cp_base.specs.Configuration.{Configuration}
 use Rattle.cp_base.specs.Contents.{Contents, all_zero}

@@ -5,5 +5,4 @@ ghost use Rattle.device_model.specs.State.{State, opening};
 /// In the opening state there is no set.
 pub fn opens_with_zeros()
     ensures no_set { (c : _) → (opening c).sets ≡ [] }
-{
-}
+{}
