@@ -1,0 +1,6 @@
+//! The program: one device that hosts share, run from a script of what the hosts do.
+#![tactic(auto)]
+
+mod in_order;
+
+fn main() {}
