@@ -1,2 +1,5 @@
-pub mod Place
-pub mod Shown
+pub mod Found
+pub mod Input
+pub mod Run
+pub mod Single
+pub mod Words

@@ -1,8 +1,9 @@
 // The sequential device.
-ghost use Rattle.std.specs.Prelude.{◌≡◌, IsTrue, slice_get, IfOk};
+ghost use Rattle.std.specs.Prelude.{◌≡◌, ◌+◌, ◌≤◌, IsTrue, length, slice_get, unwrap_or, IfOk};
+ghost use Rattle.cp_base.specs.Configuration.{size_of};
 ghost use Rattle.cp_base.specs.Answer.{answer_of, only_status};
 ghost use Rattle.cp_base.specs.Built.{is_built};
-ghost use Rattle.cp_base.specs.Contents.{IsInside, bytes_in, bytes_of};
+ghost use Rattle.cp_base.specs.Contents.{bytes_in, bytes_of};
 ghost use Rattle.device_model.specs.State.{opening};
 ghost use Rattle.device_model.specs.Step.{DeviceStep};
 
@@ -65,6 +66,7 @@ impl SeqDevice {
         requires { IsTrue (is_built command.now) }
         ensures step { DeviceStep self.old.config self.old.state command.now (answer_of result) self.new.state }
         ensures config { self.new.config ≡ self.old.config }
+        ensures short { length result.bytes.items ≤ 8192 }
     {
         match command {
             Command::MemRead { ns, at, len } => self.read_memory(*ns, *at, *len),
@@ -75,7 +77,8 @@ impl SeqDevice {
 
     // Reads bytes of a memory namespace.
     fn read_memory(&self, ns: u32, at: u64, len: u64) -> Reply
-        ensures { DeviceStep self.now.config self.now.state (Command.MemRead ns at len) (answer_of result) self.now.state }
+        ensures step { DeviceStep self.now.config self.now.state (Command.MemRead ns at len) (answer_of result) self.now.state }
+        ensures short { length result.bytes.items ≤ 8192 }
     {
         let range = match bytes_to_range(&self.config, ns, at, len, MAX_TRANSFER) {
             Ok(range) => range,
@@ -95,6 +98,7 @@ impl SeqDevice {
     fn write_memory(&mut self, ns: u32, at: u64, bytes: &Bytes) -> Reply
         ensures step { DeviceStep self.old.config self.old.state (Command.MemWrite ns at bytes.now) (answer_of result) self.new.state }
         ensures config { self.new.config ≡ self.old.config }
+        ensures short { length result.bytes.items ≤ 8192 }
     {
         match bytes_to_range(&self.config, ns, at, bytes.len(), MAX_TRANSFER) {
             Ok(range) => {
@@ -112,11 +116,12 @@ impl SeqDevice {
         self.flat.byte(space, at)
     }
 
-    /// The bytes of a range, which the namespace has.
-    pub fn piece(&self, range: &ByteRange) -> Result<Bytes, NoMemory>
-        requires { IsInside self.now.state.contents range.now }
-        ensures { IfOk result (λ piece. piece.items ≡ bytes_in self.now.state.contents range.now) }
+    /// The bytes of a range, which the namespace has by the configuration.
+    pub fn slice(&self, range: &ByteRange) -> &[u8]
+        requires { range.now.start + range.now.len ≤ unwrap_or (size_of self.now.config range.now.space) 0 }
+        ensures { result.now ≡ bytes_in self.now.state.contents range.now }
     {
-        self.flat.piece(range)
+        let flat = &self.flat;
+        flat.slice(range)
     }
 }

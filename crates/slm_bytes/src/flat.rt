@@ -75,15 +75,22 @@ impl Flat {
         self.bytes(space).get(at as usize).copied()
     }
 
-    /// The bytes of a range, which the namespace has.
+    /// The bytes of a range, which the namespace has, where they are kept.
+    pub fn slice(&self, range: &ByteRange) -> &[u8]
+        requires { IsInside self.now range.now }
+        ensures { result.now ≡ bytes_in self.now range.now }
+    {
+        let start = range.start() as usize;
+        let len = range.len() as usize;
+        &self.bytes(range.space())[start..start + len]
+    }
+
+    /// A copy of the bytes of a range, which the namespace has.
     pub fn piece(&self, range: &ByteRange) -> Result<Bytes, NoMemory>
         requires { IsInside self.now range.now }
         ensures { IfOk result (λ piece. piece.items ≡ bytes_in self.now range.now) }
     {
-        let start = range.start() as usize;
-        let len = range.len() as usize;
-        let bytes = self.bytes(range.space());
-        Bytes::from_slice(self.alloc, &bytes[start..start + len])
+        Bytes::from_slice(self.alloc, self.slice(range))
     }
 
     /// Puts bytes over those of a range, which the namespace has.
