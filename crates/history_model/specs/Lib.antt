@@ -1,5 +1,7 @@
 pub mod Entry
 pub mod Legal
+pub mod Plain
 pub mod Plan
+pub mod Rules
 pub mod Sent
 pub mod Text

@@ -1,0 +1,26 @@
+-- What holds of every plan: the rules of queues, kept to the end of each part. This project's own; that
+-- a command identifier is unique among the outstanding commands of its queue, and that a queue has a
+-- depth, is NVMe's (Base Specification, submission queues).
+use Rattle.std.specs.Prelude.{◌≡◌, ℕ, ◌<◌, ◌==◌, not, List, [], ◌∷◌, ◌++◌, length, filter, All, Contains}
+use Rattle.script_cmds.specs.declared.item.Item.{Item}
+use Rattle.script_cmds.specs.declared.item.Item.TheVariants as item
+use Rattle.script_cmds.specs.declared.item.HostPart.{HostPart}
+use Rattle.script_cmds.specs.declared.item.Phase.{Phase}
+
+-- the identifiers of the outstanding commands after one of them is taken
+abbrev pub without : ℕ → List ℕ → List ℕ
+without cid outstanding = filter (λ other. not (other == cid)) outstanding
+
+-- A host's items keep the rules of its queue, where commands of these identifiers are outstanding: each
+-- send finds room and an identifier that no outstanding command has, each take names an outstanding
+-- command, and at the end nothing is outstanding.
+abbrev pub KeepsQueue : ℕ → List ℕ → List Item → Type 0
+KeepsQueue depth outstanding [] = outstanding ≡ []
+KeepsQueue depth outstanding (item.Send cid command ∷ items) =
+    (length outstanding < depth) × (Contains outstanding cid → ⊥) × KeepsQueue depth (outstanding ++ cid ∷ []) items
+KeepsQueue depth outstanding (item.Take cid ∷ items) = Contains outstanding cid × KeepsQueue depth (without cid outstanding) items
+
+-- a phase has a host, and each host's part keeps the rules of its queue
+pub record KeepsRules (depth : ℕ) (phase : Phase) : Type 0 where
+  pub acted : 0 < length phase.hosts
+  pub queues : All (λ (part : HostPart). KeepsQueue depth [] part.items) phase.hosts
