@@ -7,6 +7,7 @@ use Rattle.cp_text.specs.HexText.{hex_text}
 use Rattle.script_cmds.specs.Line.{line_text, word_text, word_of}
 use Rattle.script_cmds.specs.Text.{show_line}
 use Rattle.script_cmds.specs.declared.item.Show.{Show}
+use Rattle.script_cmds.specs.declared.word.CommandWord.{CommandWord}
 use Rattle.cp_base.specs.Contents.{Contents, bytes_in}
 use Rattle.history_model.specs.Entry.{Entry}
 use Rattle.history_model.specs.Legal.{last_state}
@@ -42,11 +43,15 @@ status_text status.NoMemory = codes "NoMemory"
 abbrev pub lettered : List ℕ → ℕ → List ℕ
 lettered letters n = letters ++ decimal n
 
--- the line of an entry, with its newline; k counts the lines from 1
+-- the line of an entry, with its newline, by what it says; k counts the lines from 1
+abbrev pub line_of_entry : ℕ → ℕ → ℕ → ℕ → CommandWord → Status → ℕ → List ℕ → List ℕ
+line_of_entry k host ordinal cid word status value bytes =
+    lettered (codes "#") k ++ lettered (codes " h") host ++ lettered (codes " n") ordinal ++ lettered (codes " c") cid ++ codes " " ++ word_text word ++ codes " "
+    ++ status_text status ++ lettered (codes " r=") value ++ codes " d=" ++ hex_text bytes ++ 10 ∷ []
+
+-- the line of an entry, with its newline
 abbrev pub entry_text : ℕ → Entry → List ℕ
-entry_text k entry =
-    lettered (codes "#") k ++ lettered (codes " h") entry.sent.host ++ lettered (codes " n") entry.sent.ordinal ++ lettered (codes " c") entry.sent.cid ++ codes " " ++ word_text (word_of entry.sent.command) ++ codes " "
-    ++ status_text entry.answer.status ++ lettered (codes " r=") entry.answer.result ++ codes " d=" ++ hex_text entry.answer.bytes ++ 10 ∷ []
+entry_text k entry = line_of_entry k entry.sent.host entry.sent.ordinal entry.sent.cid (word_of entry.sent.command) entry.answer.status entry.answer.result entry.answer.bytes
 
 -- the lines of entries, of which the first has this number
 abbrev pub entries_text : ℕ → List Entry → List ℕ
@@ -70,10 +75,14 @@ abbrev pub is_ok_status : Status → Bool
 is_ok_status status.Ok = true
 is_ok_status _ = false
 
+-- the four lines of a summary, by their numbers
+abbrev pub lines_of_summary : ℕ → ℕ → ℕ → ℕ → List ℕ
+lines_of_summary commands ok other total =
+    lettered (codes "commands ") commands ++ 10 ∷ lettered (codes "ok ") ok ++ 10 ∷ lettered (codes "other ") other ++ 10 ∷ lettered (codes "sum ") total ++ 10 ∷ []
+
 -- the summary of a history: how many commands, how many were answered Ok, how many otherwise, and the
 -- sum of the results modulo 2 ^ 64
 abbrev pub summary_text : List Entry → List ℕ
 summary_text history =
     let ok : ℕ = count_by (λ (entry : Entry). is_ok_status entry.answer.status) history in
-    lettered (codes "commands ") (length history) ++ 10 ∷ lettered (codes "ok ") ok ++ 10 ∷ lettered (codes "other ") (length history - ok)
-    ++ 10 ∷ lettered (codes "sum ") (sum_by (λ (entry : Entry). entry.answer.result) history % 2 ^ 64) ++ 10 ∷ []
+    lines_of_summary (length history) ok (length history - ok) (sum_by (λ (entry : Entry). entry.answer.result) history % 2 ^ 64)
