@@ -1,4 +1,5 @@
--- Texts of bytes: two digits 0 to 9 and a to f for each byte, the high one first. This project's own.
+-- Texts of bytes: two digits 0 to 9 and a to f for each byte, the high one first. This project's
+-- own.
 use Rattle.std.specs.Prelude.{ℕ, ◌+◌, ◌-◌, ◌*◌, ◌/◌, ◌%◌, ◌<◌, ◌≤◌, nat_le, ◌⊎◌, ◌&&◌, List, [], ◌∷◌, All, Option, Some, None, if◌then◌else◌}
 use Rattle.std.specs.Char.{digit_char}
 

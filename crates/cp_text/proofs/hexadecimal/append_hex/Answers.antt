@@ -1,5 +1,4 @@
-use Rattle.std.proofs.Common.{◌≡◌, ◌++◌, length, take, drop, min, arith}
-use Rattle.cp_text.specs.HexText.{hex_text}
+use Rattle.std.proofs.Common.{arith}
 use Rattle.cp_text.proofs.HexTexts.{hex_text-more}
 use Rattle.cp_text.proofs.hexadecimal.append_hex.Goals as goal
 

@@ -1,4 +1,4 @@
-use Rattle.std.proofs.Common.{◌≡◌, List, ℕ, Some, sym, ap, ◌∙◌, arith}
+use Rattle.std.proofs.Common.{List, ℕ, Some, sym, ap, ◌∙◌}
 use Rattle.cp_text.specs.HexText.{hex_of}
 use Rattle.cp_text.proofs.HexTexts.{hex_of-none, hex_of-read}
 use Rattle.cp_text.proofs.hexadecimal.hex_bytes.Goals as goal
