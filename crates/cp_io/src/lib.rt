@@ -13,3 +13,6 @@ pub use memory_source::MemSource;
 pub use sink::{Sink, Took, WriteFault, write_all};
 pub use source::{Got, ReadEnd, Source, read_all};
 pub use standard::{StdSink, StdSource};
+
+#[cfg(test)]
+mod tests;
