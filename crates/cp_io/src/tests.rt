@@ -6,8 +6,10 @@ use cp_base::Bytes;
 use std::alloc::{AllocError, Global};
 use std::io;
 use std::io::{ErrorKind, Read, Write};
+use std::process::Abort;
 use std::test::Fail;
 
+// A source in memory, and no memory as the one error.
 fn source(alloc: Global, bytes: &[u8], most: u32, fails: &[u32]) -> Result<MemSource, AllocError> {
     let fails = fails.to_vec(alloc)?;
     match Bytes::from_slice(alloc, bytes) {
@@ -16,52 +18,68 @@ fn source(alloc: Global, bytes: &[u8], most: u32, fails: &[u32]) -> Result<MemSo
     }
 }
 
+// Reads once, and compares the answer and the bytes that came.
+fn expect_read<S: Source>(rt: &impl Abort, source: &mut S, answer: Got, bytes: &[u8]) {
+    let mut into = [0; 8];
+    let got = source.read(&mut into);
+    assert_eq!(rt; got, answer);
+    if let Got::Count(n) = got {
+        assert_eq!(rt; &into[..n], bytes);
+    }
+}
+
+fn expect_write<K: Sink>(rt: &impl Abort, sink: &mut K, piece: &[u8], answer: Took) {
+    if !piece.is_empty() {
+        let took = sink.write(piece);
+        assert_eq!(rt; took, answer);
+    }
+}
+
+// Reads all, and compares the bytes, or the cause of a refusal.
+fn expect_all<S: Source>(
+    rt: &impl Abort,
+    alloc: Global,
+    source: &mut S,
+    limit: u64,
+    answer: Result<&[u8], ReadEnd>,
+) {
+    match read_all(alloc, source, limit) {
+        Ok(read) => assert_eq!(rt; Ok(read.as_slice()), answer),
+        Err(end) => assert_eq!(rt; Err(end), answer),
+    }
+}
+
 #[test]
 fn a_source_fails_at_its_listed_calls(rt: HostRuntime) -> Result<(), Fail> {
     let mut source = source(rt.alloc(), b"abcd", 3, &[1, 3])?;
-    let mut into = *b"........";
-    let answers = [
-        (Got::Failed, b"........"),
-        (Got::Count(3), b"abc....."),
-        (Got::Failed, b"abc....."),
-        (Got::Count(1), b"dbc....."),
-        (Got::End, b"dbc....."),
-        (Got::End, b"dbc....."),
-    ];
-    for (answer, slice) in answers {
-        assert_eq!(rt; source.read(&mut into), answer);
-        assert_eq!(rt; into.as_slice(), slice.as_slice());
-    }
+    expect_read(&rt, &mut source, Got::Failed, b"");
+    expect_read(&rt, &mut source, Got::Count(3), b"abc");
+    expect_read(&rt, &mut source, Got::Failed, b"");
+    expect_read(&rt, &mut source, Got::Count(1), b"d");
+    expect_read(&rt, &mut source, Got::End, b"");
     Ok(())
 }
 
 #[test]
 fn a_sink_fails_at_its_second_write(rt: HostRuntime) -> Result<(), Fail> {
     let fails = [2].to_vec(rt.alloc())?;
-    let mut sink = MemSink::new(rt.alloc(), fails).ok().ok_or("no memory")?;
-    for answer in [Took::Count(2), Took::Failed, Took::Count(2)] {
-        assert_eq!(rt; sink.write(b"ab"), answer);
-    }
-    assert_eq!(rt; sink.held(), b"abab".as_slice());
+    let mut sink = MemSink::new(rt.alloc(), fails)?;
+    expect_write(&rt, &mut sink, b"ab", Took::Count(2));
+    expect_write(&rt, &mut sink, b"cd", Took::Failed);
+    expect_write(&rt, &mut sink, b"ef", Took::Count(2));
+    assert_eq!(rt; sink.held(), b"abef".as_slice());
     Ok(())
 }
 
 #[test]
 fn a_sink_takes_only_what_fits(rt: HostRuntime) -> Result<(), Fail> {
     let alloc = rt.alloc();
-    let mut sink = MemSink::new(alloc, Vec::new(alloc))
-        .ok()
-        .ok_or("no memory")?;
+    let mut sink = MemSink::new(alloc, Vec::new(alloc))?;
     let mut piece = Vec::new(alloc);
     piece.resize(1_048_570, 7)?;
-    for answer in [
-        Took::Count(1_048_570),
-        Took::Count(6),
-        Took::Failed,
-        Took::Failed,
-    ] {
-        assert_eq!(rt; sink.write(&piece), answer);
-    }
+    expect_write(&rt, &mut sink, &piece, Took::Count(1_048_570));
+    expect_write(&rt, &mut sink, &piece, Took::Count(6));
+    expect_write(&rt, &mut sink, &piece, Took::Failed);
     assert_eq!(rt; sink.held().len(), 1_048_576);
     Ok(())
 }
@@ -69,25 +87,44 @@ fn a_sink_takes_only_what_fits(rt: HostRuntime) -> Result<(), Fail> {
 #[test]
 fn all_is_read_up_to_the_limit(rt: HostRuntime) -> Result<(), Fail> {
     let alloc = rt.alloc();
-    let rows: [(&[u8], u32, &[u32], u64, Result<(), ReadEnd>); 10] = [
-        (b"abcd", 9, &[], 4, Ok(())),
-        (b"abcd", 9, &[], 3, Err(ReadEnd::TooLong)),
-        (b"abcd", 1, &[], 4, Ok(())),
-        (b"abcd", 1, &[], 3, Err(ReadEnd::TooLong)),
-        (b"", 1, &[], 0, Ok(())),
-        (b"a", 1, &[], 0, Err(ReadEnd::TooLong)),
-        (b"abcd", 9, &[], u64::MAX, Ok(())),
-        (b"abcd", 9, &[1], 4, Err(ReadEnd::Fault)),
-        (b"abcd", 1, &[3], 4, Err(ReadEnd::Fault)),
-        (b"abcd", 1, &[6], 4, Ok(())),
-    ];
-    for (bytes, most, fails, limit, answer) in rows {
-        let mut source = source(alloc, bytes, most, fails)?;
-        let read = read_all(alloc, &mut source, limit);
-        if let Ok(read) = &read {
-            assert_eq!(rt; read.as_slice(), bytes);
-        }
-        assert_eq!(rt; read.map(|_| ()), answer);
+    for (most, limit, is_enough) in [
+        (9, 4, true),
+        (9, 3, false),
+        (1, 4, true),
+        (1, 3, false),
+        (9, u64::MAX, true),
+    ] {
+        let mut source = source(alloc, b"abcd", most, &[])?;
+        let answer = if is_enough {
+            Ok(b"abcd".as_slice())
+        } else {
+            Err(ReadEnd::TooLong)
+        };
+        expect_all(&rt, alloc, &mut source, limit, answer);
+    }
+    Ok(())
+}
+
+#[test]
+fn nothing_is_read_up_to_the_limit(rt: HostRuntime) -> Result<(), Fail> {
+    let alloc = rt.alloc();
+    expect_all(&rt, alloc, &mut source(alloc, b"", 1, &[])?, 0, Ok(b""));
+    expect_all(
+        &rt,
+        alloc,
+        &mut source(alloc, b"a", 1, &[])?,
+        0,
+        Err(ReadEnd::TooLong),
+    );
+    Ok(())
+}
+
+#[test]
+fn a_failed_read_ends_the_reading(rt: HostRuntime) -> Result<(), Fail> {
+    let alloc = rt.alloc();
+    for fails in [1, 3, 5] {
+        let mut source = source(alloc, b"abcd", 1, &[fails])?;
+        expect_all(&rt, alloc, &mut source, 4, Err(ReadEnd::Fault));
     }
     Ok(())
 }
@@ -101,8 +138,7 @@ fn many_pieces_are_joined(rt: HostRuntime) -> Result<(), Fail> {
     }
     for most in [1000, 100_000] {
         let mut source = source(alloc, &bytes, most, &[])?;
-        let read = read_all(alloc, &mut source, 200_000)?;
-        assert_eq!(rt; read.as_slice(), bytes.as_slice());
+        expect_all(&rt, alloc, &mut source, 200_000, Ok(&bytes));
     }
     Ok(())
 }
@@ -129,23 +165,21 @@ impl Sink for Narrow {
     }
 }
 
+fn expect_offered(rt: &impl Abort, alloc: Global, most: usize, held: &[u8], is_whole: bool) {
+    let mut sink = Narrow {
+        held: Vec::new(alloc),
+        most,
+        faults: 0,
+    };
+    assert_eq!(rt; write_all(&mut sink, b"abcde").is_ok(), is_whole);
+    assert_eq!(rt; sink.held.as_slice(), held);
+}
+
 #[test]
-fn a_text_is_offered_until_all_is_taken(rt: HostRuntime) -> Result<(), Fail> {
-    let rows = [
-        (5, Ok(()), b"abcde".as_slice()),
-        (4, Err(WriteFault), b"abcd".as_slice()),
-        (0, Err(WriteFault), b"".as_slice()),
-    ];
-    for (most, answer, held) in rows {
-        let mut sink = Narrow {
-            held: Vec::new(rt.alloc()),
-            most,
-            faults: 0,
-        };
-        assert_eq!(rt; write_all(&mut sink, b"abcde"), answer);
-        assert_eq!(rt; sink.held.as_slice(), held);
-    }
-    Ok(())
+fn a_text_is_offered_until_all_is_taken(rt: HostRuntime) {
+    expect_offered(&rt, rt.alloc(), 5, b"abcde", true);
+    expect_offered(&rt, rt.alloc(), 4, b"abcd", false);
+    expect_offered(&rt, rt.alloc(), 0, b"", false);
 }
 
 // Interrupts, gives or takes one byte, fails, and then is at its end.
@@ -187,40 +221,34 @@ impl Write for Stumbling {
 #[test]
 fn interruptions_are_tried_again(rt: HostRuntime) {
     let mut source = StdSource::new(Stumbling { turn: 0 });
-    for answer in [Got::Count(1), Got::Failed, Got::End] {
-        assert_eq!(rt; source.read(&mut [0; 4]), answer);
-    }
+    expect_read(&rt, &mut source, Got::Count(1), &[0]);
+    expect_read(&rt, &mut source, Got::Failed, b"");
+    expect_read(&rt, &mut source, Got::End, b"");
+
     let mut sink = StdSink::new(Stumbling { turn: 0 });
-    for answer in [Took::Count(1), Took::Failed, Took::Failed] {
-        assert_eq!(rt; sink.write(b"abcd"), answer);
-    }
+    expect_write(&rt, &mut sink, b"abcd", Took::Count(1));
+    expect_write(&rt, &mut sink, b"abcd", Took::Failed);
+    expect_write(&rt, &mut sink, b"abcd", Took::Failed);
 }
 
 #[test]
-fn std_adapters_tell_ends_and_failures(rt: HostRuntime) -> Result<(), Fail> {
-    let alloc = rt.alloc();
-    let read = read_all(alloc, &mut StdSource::new(b"hello".as_slice()), 5)?;
-    assert_eq!(rt; read.as_slice(), b"hello".as_slice());
-    let read = read_all(alloc, &mut StdSource::new(b"hello".as_slice()), 4);
-    assert_eq!(rt; read.map(|_| ()), Err(ReadEnd::TooLong));
-
-    let mut written = Vec::new(alloc);
+fn bytes_pass_through_the_std_adapters(rt: HostRuntime) {
+    let mut source = StdSource::new(b"hello".as_slice());
+    expect_all(&rt, rt.alloc(), &mut source, 5, Ok(b"hello"));
+    let mut written = Vec::new(rt.alloc());
     assert_eq!(rt;
         write_all(&mut StdSink::new(&mut written), b"hello"),
         Ok(())
     );
     assert_eq!(rt; written.as_slice(), b"hello".as_slice());
-    Ok(())
 }
 
 #[test]
-fn std_streams_are_read_and_written(rt: HostRuntime) -> Result<(), Fail> {
-    let mut input = StdSource::new(rt.stdin());
-    assert_eq!(rt; input.read(&mut [0; 4]), Got::End);
+fn std_streams_are_read_and_written(rt: HostRuntime) {
+    expect_read(&rt, &mut StdSource::new(rt.stdin()), Got::End, b"");
     let mut output = StdSink::new(rt.stdout());
     assert_eq!(rt;
         write_all(&mut output, b"written through the standard sink\n"),
         Ok(())
     );
-    Ok(())
 }
