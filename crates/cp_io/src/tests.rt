@@ -29,10 +29,9 @@ fn expect_read<S: Source>(rt: &impl Abort, source: &mut S, answer: Got, bytes: &
 }
 
 fn expect_write<K: Sink>(rt: &impl Abort, sink: &mut K, piece: &[u8], answer: Took) {
-    if !piece.is_empty() {
-        let took = sink.write(piece);
-        assert_eq!(rt; took, answer);
-    }
+    assert!(rt; !piece.is_empty());
+    let took = sink.write(piece);
+    assert_eq!(rt; took, answer);
 }
 
 // Reads all, and compares the bytes, or the cause of a refusal.
