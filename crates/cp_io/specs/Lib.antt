@@ -2,3 +2,5 @@ pub mod Counting
 pub mod Memory
 pub mod Sink
 pub mod Source
+pub mod Standard
+pub mod Worked

@@ -7,9 +7,14 @@ mod memory_source;
 mod sink;
 mod source;
 mod standard;
+mod worked;
 
 pub use memory_sink::MemSink;
 pub use memory_source::MemSource;
 pub use sink::{Sink, Took, WriteFault, write_all};
 pub use source::{Got, ReadEnd, Source, read_all};
 pub use standard::{StdSink, StdSource};
+pub use worked::{worked_reads, worked_writes};
+
+#[cfg(test)]
+mod tests;

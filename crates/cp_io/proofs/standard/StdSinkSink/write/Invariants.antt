@@ -1,4 +1,5 @@
 use Rattle.std.proofs.Common.{◌≤◌, ◌<◌}
+use Rattle.std.specs.Io.KnownBytes.{Keeps}
 use Rattle.cp_io.specs.Counting.{Rose}
 use Rattle.cp_io.proofs.standard.StdSinkSink.write.Given as goal
 
@@ -6,4 +7,5 @@ abbrev pub invariant-loop : goal.invariant-loop
 invariant-loop g l = record {
   later : l.initial.self.faults ≤ l.self.faults;
   rose : 0 < l.counter → Rose l.initial.self.faults l.self.faults;
+  kept : Keeps (g.W.Write.contents l.initial.self.writer) (g.W.Write.contents l.self.writer);
 }

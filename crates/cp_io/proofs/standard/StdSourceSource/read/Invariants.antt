@@ -1,4 +1,5 @@
 use Rattle.std.proofs.Common.{◌≡◌, ◌≤◌, ◌<◌}
+use Rattle.std.specs.Io.KnownBytes.{Keeps}
 use Rattle.cp_io.specs.Counting.{Rose}
 use Rattle.cp_io.proofs.standard.StdSourceSource.read.Given as goal
 
@@ -7,4 +8,5 @@ invariant-loop g l = record {
   later : l.initial.self.faults ≤ l.self.faults;
   rose : 0 < l.counter → Rose l.initial.self.faults l.self.faults;
   given : l.self.given ≡ l.initial.self.given;
+  kept : Keeps (g.R.Read.remaining l.initial.self.reader) (g.R.Read.remaining l.self.reader);
 }
