@@ -4,4 +4,4 @@
 
 mod values;
 
-pub use values::values_by_example;
+pub use values::{laws_of_values, values_by_example};
