@@ -1,0 +1,9 @@
+-- What contracts see of a range of bytes. This project's own.
+use Rattle.std.specs.Prelude.{ℕ}
+use Rattle.cp_base.specs.declared.region.SpaceId.{SpaceId}
+
+-- len bytes of a namespace, from place start on
+pub record Region : Type 0 where
+  pub space : SpaceId
+  pub start : ℕ
+  pub len : ℕ

@@ -1,0 +1,95 @@
+// The commands that a host can send.
+use crate::{Bytes, RangeList, SourceList};
+
+/// A command, with its fields as the host gave them. Fields too large for the device are found when
+/// the command is carried out.
+///
+/// Source: the NVMe NVM Command Set, Subsystem Local Memory Command Set 1.0 and Computational
+/// Programs Command Set 1.0 in outline. The fields are this project's own.
+#[derive(Debug, Drop)]
+pub enum Command {
+    /// Read `count` blocks from block `lba` on.
+    NvmRead {
+        ns: u32,
+        lba: u64,
+        count: u64,
+    },
+    /// Write whole blocks from block `lba` on.
+    NvmWrite {
+        ns: u32,
+        lba: u64,
+        bytes: Bytes,
+    },
+    /// Fill `count` blocks from block `lba` on with zeros.
+    NvmZeroes {
+        ns: u32,
+        lba: u64,
+        count: u64,
+    },
+    /// Copy the sources, one after the other, to block `lba` and on.
+    NvmCopy {
+        ns: u32,
+        lba: u64,
+        from: SourceList,
+    },
+    /// Read `len` bytes from place `at` on.
+    MemRead {
+        ns: u32,
+        at: u64,
+        len: u64,
+    },
+    /// Write bytes from place `at` on.
+    MemWrite {
+        ns: u32,
+        at: u64,
+        bytes: Bytes,
+    },
+    /// Fill `len` bytes from place `at` on with one value.
+    MemFill {
+        ns: u32,
+        at: u64,
+        len: u64,
+        value: u8,
+    },
+    /// Copy the sources, one after the other, to place `at` and on.
+    MemCopy {
+        ns: u32,
+        at: u64,
+        from: SourceList,
+    },
+    /// Make a set of memory ranges.
+    SetCreate {
+        ranges: RangeList,
+    },
+    /// Take a set of memory ranges away.
+    SetDelete {
+        set: u32,
+    },
+    /// Load a piece of a program of `size` bytes, from its byte `at` on.
+    Load {
+        slot: u32,
+        size: u64,
+        at: u64,
+        bytes: Bytes,
+    },
+    /// Make a slot empty.
+    Unload {
+        slot: u32,
+    },
+    /// Make a loaded program executable.
+    Activate {
+        slot: u32,
+    },
+    /// Make a program loaded and no more.
+    Deactivate {
+        slot: u32,
+    },
+    /// Execute the program of a slot on the ranges of a set, for at most `budget` instructions.
+    Execute {
+        slot: u32,
+        set: u32,
+        p1: u64,
+        p2: u64,
+        budget: u64,
+    },
+}

@@ -1,0 +1,117 @@
+// The sources of a copy and the ranges of a set, 1 to 16 of them, kept in place.
+ghost use Rattle.std.specs.Prelude.{◌≡◌, ℕ, ◌<◌, ◌≤◌, ◌↔◌, length, IsSome, IfSome};
+
+use smallvec::SmallVec;
+use std::alloc::Global;
+use std::marker::Model;
+
+/// The most sources of a copy, and the most ranges of a set.
+pub const MAX_ITEMS: usize = 16;
+
+/// A part of a namespace that a copy reads.
+#[derive(Clone, Copy, Debug, PartialEq, Eq)]
+pub enum CopySource {
+    /// `count` blocks of an NVM namespace, from block `lba` on.
+    Nvm { ns: u32, lba: u64, count: u64 },
+    /// `len` bytes of a memory namespace, from place `at` on.
+    Mem { ns: u32, at: u64, len: u64 },
+}
+
+impl Default for CopySource {
+    /// What stands in the places of a list that are not used.
+    fn default() -> CopySource {
+        CopySource::Mem {
+            ns: 0,
+            at: 0,
+            len: 0,
+        }
+    }
+}
+
+/// A part of a memory namespace that a set names: `len` bytes from place `at` on.
+#[derive(Clone, Copy, Debug, Default, PartialEq, Eq)]
+pub struct MemRange {
+    pub ns: u32,
+    pub at: u64,
+    pub len: u64,
+}
+
+/// The sources of a copy in their order, 1 to 16 of them.
+#[derive(Debug, Drop)]
+pub struct SourceList {
+    sources: SmallVec<CopySource, MAX_ITEMS>,
+}
+
+impl Model for SourceList {
+    ghost use Rattle.std.specs.Prelude.{List, ◌<◌, ◌≤◌, length};
+    ghost use Rattle.cp_base.specs.declared.lists.CopySource.{CopySource};
+
+    ghost Value = { List CopySource };
+
+    ghost view = { λ l. l.sources.items };
+
+    ghost invariant = { λ l. (0 < length l.sources.items) × (length l.sources.items ≤ 16) };
+}
+
+impl SourceList {
+    /// These sources. `None` where there are none or more than 16.
+    pub fn new(alloc: Global, items: &[CopySource]) -> Option<SourceList>
+        ensures found { IsSome result ↔ ((0 < length items.now) × (length items.now ≤ 16)) }
+        ensures value { IfSome result (λ l. l ≡ items.now) }
+    {
+        if items.is_empty() || items.len() > MAX_ITEMS {
+            return None;
+        }
+        let sources = SmallVec::from_slice(alloc, items).unwrap();
+        Some(SourceList { sources })
+    }
+
+    /// The sources in order.
+    pub fn as_slice(&self) -> &[CopySource]
+        ensures value { result.now ≡ self.now }
+        ensures some { 0 < length result.now }
+        ensures few { length result.now ≤ 16 }
+    {
+        self.sources.as_slice()
+    }
+}
+
+/// The ranges of a set in their order, 1 to 16 of them.
+#[derive(Debug, Drop)]
+pub struct RangeList {
+    ranges: SmallVec<MemRange, MAX_ITEMS>,
+}
+
+impl Model for RangeList {
+    ghost use Rattle.std.specs.Prelude.{List, ◌<◌, ◌≤◌, length};
+    ghost use Rattle.cp_base.specs.declared.lists.MemRange.{MemRange};
+
+    ghost Value = { List MemRange };
+
+    ghost view = { λ l. l.ranges.items };
+
+    ghost invariant = { λ l. (0 < length l.ranges.items) × (length l.ranges.items ≤ 16) };
+}
+
+impl RangeList {
+    /// These ranges. `None` where there are none or more than 16.
+    pub fn new(alloc: Global, items: &[MemRange]) -> Option<RangeList>
+        ensures found { IsSome result ↔ ((0 < length items.now) × (length items.now ≤ 16)) }
+        ensures value { IfSome result (λ l. l ≡ items.now) }
+    {
+        if items.is_empty() || items.len() > MAX_ITEMS {
+            return None;
+        }
+        let ranges = SmallVec::from_slice(alloc, items).unwrap();
+        Some(RangeList { ranges })
+    }
+
+    /// The ranges in order.
+    pub fn as_slice(&self) -> &[MemRange]
+        ensures value { result.now ≡ self.now }
+        ensures some { 0 < length result.now }
+        ensures few { length result.now ≤ 16 }
+    {
+        self.ranges.as_slice()
+    }
+}

@@ -1,0 +1,5 @@
+pub mod Checks
+pub mod Effect
+pub mod Memory
+pub mod State
+pub mod Step

@@ -1,0 +1,27 @@
+-- Which command takes memory, and so may be answered that there is none. This project's own.
+use Rattle.std.specs.Prelude.{Bool, true, false, ◌&&◌, is_none}
+use Rattle.cp_base.specs.Configuration.{Configuration}
+use Rattle.cp_base.specs.declared.commands.Command.{Command}
+use Rattle.cp_base.specs.declared.commands.Command.TheVariants as command
+use Rattle.device_model.specs.Checks.{refusal_of}
+use Rattle.device_model.specs.State.{State}
+
+-- whether a command reads or writes bytes of namespaces
+abbrev pub moves_bytes : Command → Bool
+moves_bytes (command.SetCreate ranges) = false
+moves_bytes (command.SetDelete set) = false
+moves_bytes (command.Load slot size at bytes) = false
+moves_bytes (command.Unload slot) = false
+moves_bytes (command.Activate slot) = false
+moves_bytes (command.Deactivate slot) = false
+moves_bytes _ = true
+
+-- whether a command that passes its checks takes memory
+abbrev pub may_take_memory : Command → Bool
+may_take_memory (command.Load slot size at bytes) = true
+may_take_memory (command.Activate slot) = true
+may_take_memory cmd = moves_bytes cmd
+
+-- whether a command takes memory in a state
+abbrev pub takes_memory : Configuration → State → Command → Bool
+takes_memory c s cmd = may_take_memory cmd && is_none (refusal_of c s cmd)

@@ -1,0 +1,61 @@
+-- The commands of a plan, each as its host sends it, and which of them have to come before which. This
+-- project's own.
+use Rattle.std.specs.Prelude.{◌≡◌, ℕ, ◌+◌, ◌<◌, ◌==◌, not, ◌⊎◌, List, [], ◌∷◌, ◌++◌, Contains, count_by, filter, map}
+use Rattle.cp_base.specs.declared.commands.Command.{Command}
+use Rattle.script_cmds.specs.declared.item.Item.{Item}
+use Rattle.script_cmds.specs.declared.item.Item.TheVariants as item
+use Rattle.script_cmds.specs.declared.item.HostPart.{HostPart}
+use Rattle.script_cmds.specs.declared.item.Phase.{Phase}
+
+-- A command as it is sent. Its name is its host and its ordinal, which counts the host's sends from 1
+-- over all phases. With it go its identifier, the number of its phase, the command, and the ordinals of
+-- the host's commands that the host has taken before it sends this one.
+pub record Sent : Type 0 where
+  pub host : ℕ
+  pub ordinal : ℕ
+  pub cid : ℕ
+  pub phase : ℕ
+  pub command : Command
+  pub taken : List ℕ
+
+-- an outstanding command of a host
+pub record Waiting : Type 0 where
+  pub cid : ℕ
+  pub ordinal : ℕ
+
+-- the ordinals of the outstanding commands of this identifier
+abbrev pub ordinals_of : ℕ → List Waiting → List ℕ
+ordinals_of cid waiting = map (λ (w : Waiting). w.ordinal) (filter (λ (w : Waiting). w.cid == cid) waiting)
+
+-- the commands that a host sends by these items, from an ordinal on
+abbrev pub sends_of_items : ℕ → ℕ → ℕ → List Waiting → List ℕ → List Item → List Sent
+sends_of_items host phase ordinal waiting taken [] = []
+sends_of_items host phase ordinal waiting taken (item.Send cid command ∷ items) =
+    record { host = host; ordinal = ordinal; cid = cid; phase = phase; command = command.value; taken = taken }
+    ∷ sends_of_items host phase (ordinal + 1) (waiting ++ record { cid = cid; ordinal = ordinal } ∷ []) taken items
+sends_of_items host phase ordinal waiting taken (item.Take cid ∷ items) =
+    sends_of_items host phase ordinal (filter (λ (w : Waiting). not (w.cid == cid)) waiting) (taken ++ ordinals_of cid waiting) items
+
+-- the ordinal of a host's next command after these
+abbrev pub next_ordinal : ℕ → List Sent → ℕ
+next_ordinal host earlier = count_by (λ (s : Sent). s.host == host) earlier + 1
+
+-- the commands of a phase after earlier ones, part by part
+abbrev pub sends_of_parts : ℕ → List Sent → List HostPart → List Sent
+sends_of_parts phase earlier [] = earlier
+sends_of_parts phase earlier (part ∷ parts) =
+    sends_of_parts phase (earlier ++ sends_of_items part.host phase (next_ordinal part.host earlier) [] [] part.items) parts
+
+-- the commands of phases after earlier ones, phase by phase
+abbrev pub sends_of_phases : ℕ → List Sent → List Phase → List Sent
+sends_of_phases phase earlier [] = earlier
+sends_of_phases phase earlier (p ∷ phases) = sends_of_phases (phase + 1) (sends_of_parts phase earlier p.hosts) phases
+
+-- all commands of a plan, in the order of the script's text
+abbrev pub sends_of : List Phase → List Sent
+sends_of plan = sends_of_phases 1 [] plan
+
+-- the first command has to be over before the second is sent: its host takes it before, or it belongs
+-- to an earlier phase
+abbrev pub TakenBefore : Sent → Sent → Type 0
+TakenBefore first second = (first.phase < second.phase) ⊎ ((first.host ≡ second.host) × Contains second.taken first.ordinal)

@@ -1,0 +1,2 @@
+//! Histories as definitions: the plan of a script, which histories are legal for it, and what is printed.
+#![tactic(auto)]
