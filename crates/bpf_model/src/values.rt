@@ -2,11 +2,11 @@
 ghost use Rattle.std.specs.Prelude.{◌≡◌, ℕ, ◌*◌, ◌%◌, ◌^◌, ◌<◌, bit_and, true, false};
 ghost use Rattle.bpf_isa.specs.Size.{bytes_of};
 ghost use Rattle.bpf_isa.specs.Width.{bits_of};
-ghost use Rattle.bpf_isa.specs.declared.operand.Size.{Size as AnySize};
-ghost use Rattle.bpf_isa.specs.declared.operand.Width.{Width as AnyWidth};
-ghost use Rattle.bpf_isa.specs.declared.operation.AluOp.{AluOp as AnyAluOp};
-ghost use Rattle.bpf_isa.specs.declared.operation.AtomicOp.{AtomicOp as AnyAtomicOp};
-ghost use Rattle.bpf_isa.specs.declared.operation.SwapOp.{SwapOp as AnySwapOp};
+ghost use Rattle.bpf_isa.specs.declared.operand.Size.{Size};
+ghost use Rattle.bpf_isa.specs.declared.operand.Width.{Width};
+ghost use Rattle.bpf_isa.specs.declared.operation.AluOp.{AluOp};
+ghost use Rattle.bpf_isa.specs.declared.operation.AtomicOp.{AtomicOp};
+ghost use Rattle.bpf_isa.specs.declared.operation.SwapOp.{SwapOp};
 ghost use Rattle.bpf_model.specs.Value.{value_of, swapped, compares, stored_by};
 
 use bpf_isa::{AluOp, AtomicOp, JumpOp, Size, SwapOp, Width};
@@ -40,9 +40,9 @@ pub fn values_by_example()
 /// Laws of the values of operations, for all operands.
 pub fn laws_of_values()
     // A result has the width of its operation, and what is stored the size of its access.
-    ensures value_fits { (op : AnyAluOp) → (width a b : ℕ) → value_of op width a b < 2 ^ width }
-    ensures swap_fits { (op : AnySwapOp) → (bits : AnyWidth) → (a : ℕ) → swapped op bits a < 2 ^ bits_of bits }
-    ensures store_fits { (op : AnyAtomicOp) → (size : AnySize) → (old source r0 : ℕ) → old < 2 ^ (8 * bytes_of size) → stored_by op size old source r0 < 2 ^ (8 * bytes_of size) }
+    ensures value_fits { (op : AluOp) → (width a b : ℕ) → value_of op width a b < 2 ^ width }
+    ensures swap_fits { (op : SwapOp) → (bits : Width) → (a : ℕ) → swapped op bits a < 2 ^ bits_of bits }
+    ensures store_fits { (op : AtomicOp) → (size : Size) → (old source r0 : ℕ) → old < 2 ^ (8 * bytes_of size) → stored_by op size old source r0 < 2 ^ (8 * bytes_of size) }
 
     // SMOD is `a - b * (a SDIV b)`, for every divisor.
     ensures remainder_64 { (a b : ℕ) → value_of AluOp.Smod 64 a b ≡ value_of AluOp.Sub 64 a (value_of AluOp.Mul 64 b (value_of AluOp.Sdiv 64 a b)) }
@@ -53,5 +53,5 @@ pub fn laws_of_values()
     ensures shift_32 { (a b : ℕ) → value_of AluOp.Lsh 32 a b ≡ (a * 2 ^ bit_and b 0x1f) % 2 ^ 32 }
 
     // To reverse bytes twice leaves the low bits.
-    ensures swapped_twice { (bits : AnyWidth) → (a : ℕ) → swapped SwapOp.Swap bits (swapped SwapOp.Swap bits a) ≡ swapped SwapOp.ToLittle bits a }
+    ensures swapped_twice { (bits : Width) → (a : ℕ) → swapped SwapOp.Swap bits (swapped SwapOp.Swap bits a) ≡ swapped SwapOp.ToLittle bits a }
 {}
