@@ -44,7 +44,8 @@ bytes_reversed (suc k) n = n % 256 * 256 ^ k + bytes_reversed k (n / 256)
 
 -- ---- arithmetic (RFC 9669, section 4.1)
 
--- the value of an operation on two numbers below 2 ^ width: the destination a and the operand b
+-- the value of an operation on two numbers below 2 ^ width: the destination a and the operand b.
+-- The least number divided by -1 is 2 ^ (width - 1), which is the least number again, and leaves the remainder 0
 abbrev pub computed : AluOp → ℕ → ℕ → ℕ → ℕ
 computed alu.Add width a b = (a + b) % 2 ^ width
 computed alu.Sub width a b = (a + (2 ^ width - b)) % 2 ^ width
