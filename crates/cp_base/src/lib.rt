@@ -9,6 +9,8 @@ mod no_memory;
 mod region;
 mod replies;
 mod sequence;
+#[cfg(test)]
+mod tests;
 
 pub use buffer::Bytes;
 pub use commands::Command;

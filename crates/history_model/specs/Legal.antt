@@ -1,10 +1,8 @@
 -- Legal histories: what a device that carries out one command after the other may have answered. This
 -- project's own; that the commands of a queue may be carried out in any order is NVMe's (Base
 -- Specification, command ordering).
-use Rattle.std.specs.Prelude.{◌≡◌, List, [], ◌∷◌, Option, Some, None, AllPairs, IsPermutation, map}
-use Rattle.cp_base.specs.Answer.{Answer}
+use Rattle.std.specs.Prelude.{List, [], ◌∷◌, Option, Some, None, AllPairs, IsPermutation, map}
 use Rattle.cp_base.specs.Configuration.{Configuration}
-use Rattle.cp_base.specs.declared.commands.Command.{Command}
 use Rattle.cp_base.specs.declared.replies.Status.{Status}
 use Rattle.cp_base.specs.declared.replies.Status.TheVariants as status
 use Rattle.script_cmds.specs.declared.item.Phase.{Phase}
@@ -12,7 +10,7 @@ use Rattle.device_model.specs.Effect.{Outcome}
 use Rattle.device_model.specs.State.{State, opening}
 use Rattle.device_model.specs.Step.{DeviceStep, outcome_of}
 use Rattle.history_model.specs.Entry.{Entry}
-use Rattle.history_model.specs.Sent.{Sent, TakenBefore, sends_of}
+use Rattle.history_model.specs.Sent.{TakenBefore, sends_of}
 
 -- the state that an outcome leaves; the old one where there is none
 abbrev pub next_of : State → Option Outcome → State

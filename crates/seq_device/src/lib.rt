@@ -1,0 +1,6 @@
+//! The sequential device: it carries out commands one after the other, and is what every other driver is measured by.
+#![tactic(auto)]
+
+mod device;
+
+pub use device::SeqDevice;
