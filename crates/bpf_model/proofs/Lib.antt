@@ -1,0 +1,4 @@
+pub mod Atomic
+pub mod Remainder
+pub mod Swap
+pub mod Value
