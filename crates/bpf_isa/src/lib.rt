@@ -1,0 +1,12 @@
+//! The instructions of the BPF profile: registers, operations, and one variant of `Insn` for each form
+//! that an instruction may have (RFC 9669). What instructions do, and which operations and registers a
+//! form allows, is said elsewhere.
+#![tactic(auto)]
+
+mod insn;
+mod operand;
+mod operation;
+
+pub use insn::Insn;
+pub use operand::{Reg, Size, Width};
+pub use operation::{AluOp, AtomicOp, JumpOp, SwapOp};
