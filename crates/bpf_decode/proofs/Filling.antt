@@ -1,5 +1,5 @@
 -- What the slots filled so far say of the code.
-use Rattle.std.proofs.Common.{◌≡◌, ℕ, zero, suc, ◌<◌, ◌≤◌, ◌*◌, ◌+◌, Bool, true, false, ◌==◌, ◌||◌, ◌&&◌, List, [], ◌∷◌, ◌++◌, length, slice_index, get_or, Option, Some, None, refl, sym, ap, ◌∙◌, arith, eqb-true, inl, inr, length-append, length-drop, take, drop, ◌-◌}
+use Rattle.std.proofs.Common.{◌≡◌, ℕ, zero, suc, ◌<◌, ◌≤◌, ◌*◌, ◌+◌, Bool, true, false, ◌==◌, ◌||◌, ◌&&◌, List, [], ◌∷◌, ◌++◌, length, slice_index, get_or, Option, Some, None, refl, sym, ap, ◌∙◌, arith, inl, inr, length-append, length-drop, take, drop, ◌-◌}
 use Rattle.std.proofs.Math.Bool.{or-true, or-false}
 use Rattle.std.proofs.Math.Seq.{take-length}
 use Rattle.std.specs.Prelude.{is_some, nat_lt, if◌then◌else◌}
@@ -9,7 +9,7 @@ use Rattle.bpf_isa.specs.declared.insn.Insn.{Insn}
 use Rattle.bpf_isa.specs.declared.insn.Insn.TheVariants as insn
 use Rattle.bpf_model.specs.Form.{form}
 use Rattle.bpf_model.specs.Walk.{units_of, reaches, stop_from, bad_place, is_well_formed, IsWellFormed, instruction_at}
-use Rattle.bpf_model.proofs.BothWays.{form-inside, form-room, units_of-pos}
+use Rattle.bpf_model.proofs.BothWays.{form-inside, form-room}
 use Rattle.bpf_model.proofs.Steps.{reaches-some, reaches-none, stop-some, stop-none}
 use Rattle.bpf_decode.specs.Slots.{slots_of}
 

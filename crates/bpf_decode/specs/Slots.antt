@@ -1,5 +1,5 @@
 -- Decoded code: for each unit the instruction that starts there, if one does.
-use Rattle.std.specs.Prelude.{◌==◌, if◌then◌else◌, ℕ, ℤ, pos, negsuc, List, [], ◌∷◌, slice_index_or, Option, Some, None}
+use Rattle.std.specs.Prelude.{◌==◌, if◌then◌else◌, ℤ, pos, negsuc, List, [], ◌∷◌, slice_index_or, Option, Some, None}
 use Rattle.bpf_isa.specs.declared.insn.Insn.{Insn}
 use Rattle.bpf_model.specs.Walk.{units_of}
 

@@ -1,7 +1,7 @@
-use Rattle.std.proofs.Common.{rules, ◌≡◌, ℕ, ◌*◌, ◌≤◌, ◌<◌, length, vec_len, List, Option, Some, None, sym, ap, ◌∙◌, arith, slice_index, w8}
+use Rattle.std.proofs.Common.{◌≡◌, ℕ, ◌*◌, ◌<◌, length, List, Some, sym, ap, ◌∙◌, arith, slice_index, w8}
 use Rattle.std.proofs.Math.Facts.{Fits-lt-pow}
 use Rattle.bpf_model.specs.Form.{first_form, form}
-use Rattle.bpf_decode.proofs.Filling.{filled-start, filled-more, filled-end, filled-slots, filled-bad, empty-bad, rest_of}
+use Rattle.bpf_decode.proofs.Filling.{filled-start, filled-more, rest_of}
 use Rattle.bpf_decode.proofs.decoder.decode.Goals as goal
 
 pub loop-bytes-init : goal.loop-bytes-init

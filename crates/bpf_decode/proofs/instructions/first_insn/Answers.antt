@@ -1,7 +1,7 @@
-use Rattle.std.proofs.Common.{◌≡◌, ℕ, ◌∙◌, ap, sym, arith, drop, ◌≤◌, length, List, Option, inl, inr}
+use Rattle.std.proofs.Common.{◌≡◌, ℕ, ◌∙◌, ap, sym, arith, drop, List, Option, inl, inr}
 use Rattle.std.specs.Prelude.{◌⊎◌, option_and_then}
 use Rattle.bpf_model.specs.declared.fields.Fields.{Fields}
-use Rattle.bpf_model.specs.Form.{first_form, fields_of, class_of, row_insn, load_imm, insn_of}
+use Rattle.bpf_model.specs.Form.{fields_of, class_of, row_insn, load_imm, insn_of}
 use Rattle.bpf_decode.proofs.ByClass.{insn_of-jump, insn_of-load_imm}
 use Rattle.bpf_decode.proofs.Filling.{rest_of}
 use Rattle.bpf_decode.proofs.instructions.first_insn.Goals as goal
