@@ -1,4 +1,9 @@
 pub mod Atomic
+pub mod BothWays
+pub mod Decoded
+pub mod Read
 pub mod Remainder
+pub mod Steps
 pub mod Swap
+pub mod Tables
 pub mod Value

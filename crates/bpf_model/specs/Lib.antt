@@ -1,1 +1,4 @@
+pub mod Encoding
+pub mod Form
 pub mod Value
+pub mod Walk

@@ -1,7 +1,14 @@
-//! The definitions of the BPF profile, which the crates above are proved against. They stand in `specs/`;
-//! the functions here have empty bodies, and their contracts are worked examples and laws of the definitions.
+//! What instructions of the BPF profile mean: their forms and encodings, the walk over code, and the values
+//! of operations (RFC 9669). Definitions stand in `specs/`. The public functions have empty bodies: their
+//! contracts are laws and worked examples of the definitions.
 #![tactic(auto)]
 
+mod fields;
+mod forms;
 mod values;
+mod walks;
 
+pub use fields::Fields;
+pub use forms::{example_forms, forms_are_encodings};
 pub use values::{laws_of_values, values_by_example};
+pub use walks::{code_ends_at_the_bad_place, example_walks};

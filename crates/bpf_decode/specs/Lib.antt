@@ -1,0 +1,3 @@
+pub mod Groups
+pub mod Slots
+pub mod Units
