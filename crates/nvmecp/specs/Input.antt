@@ -37,14 +37,18 @@ pub data IsRefusal (input : List ℕ) (text : List ℕ) : Type 0 where
   TooLong : max_input < length input → text ≡ too_long_line → IsRefusal input text
   Refused : length input ≤ max_input → Refuses input → text ≡ refusal_line → IsRefusal input text
 
--- The text is that of a history that is legal for the plan of the script that was read.
-pub record IsHistory (input : List ℕ) (text : List ℕ) : Type 0 where
-  pub within : length input ≤ max_input
-  pub faultless : first_fault input ≡ None
-  pub script : Script
-  pub read : script_text script ≡ input
+-- The text is that of a history that is legal for the plan of a script.
+pub record IsPrintOf (script : Script) (text : List ℕ) : Type 0 where
   pub plan : List Phase
   pub planned : plan_of script ≡ Ok plan
   pub history : List Entry
   pub legal : IsLegal script.config plan history
   pub printed : text ≡ history_text script.config script.shows history
+
+-- The input is a script, and the text is that of a history that is legal for its plan.
+pub record IsHistory (input : List ℕ) (text : List ℕ) : Type 0 where
+  pub within : length input ≤ max_input
+  pub faultless : first_fault input ≡ None
+  pub script : Script
+  pub read : script_text script ≡ input
+  pub print : IsPrintOf script text

@@ -1,6 +1,7 @@
 //! The program: one device that hosts share, run from a script of what the hosts do.
 #![tactic(auto)]
 
+mod carrying;
 mod single;
 mod words;
 
