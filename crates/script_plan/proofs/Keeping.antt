@@ -1,5 +1,5 @@
 -- What the definition of plans accepts keeps the rules of queues, and sends what the script sends.
-use Rattle.std.proofs.Common.{◌≡◌, ℕ, ◌+◌, ◌<◌, ◌==◌, nat_eq, nat_le, Bool, true, false, not, ◌||◌, List, [], ◌∷◌, ◌++◌, cond, map, length, get_or, Result, Ok, Err, refl, sym, ◌∙◌, subst, arith}
+use Rattle.std.proofs.Common.{ap, filter, ◌≡◌, ℕ, ◌+◌, ◌<◌, ◌==◌, nat_eq, nat_le, Bool, true, false, not, ◌||◌, List, [], ◌∷◌, ◌++◌, cond, map, length, get_or, Result, Ok, Err, refl, sym, ◌∙◌, subst, arith}
 use Rattle.std.specs.List.{AllByRecursion, Contains}
 use Rattle.std.specs.Prelude.{if◌then◌else◌}
 use Rattle.std.proofs.lemmas.Bool.{eq-eqb, eqb-true, leb-false}
@@ -10,6 +10,8 @@ use Rattle.script_cmds.specs.declared.item.Item.TheVariants as item
 use Rattle.script_cmds.specs.declared.item.HostPart.{HostPart}
 use Rattle.script_cmds.specs.declared.item.Phase.{Phase}
 use Rattle.history_model.specs.Plan.{PlanFault, QueueFull, CidBusy, NotOutstanding, is_outstanding, planned_items, planned_parts, planned_hosts, planned_phases, lines_of_parts, then_plan, both_planned}
+use Rattle.history_model.specs.Plain.{hosts_of}
+use Rattle.history_model.specs.Sent.{Sent, Waiting, ordinals_of, next_ordinal, sends_of_items, sends_of_parts, sends_of_phases}
 use Rattle.history_model.specs.Rules.{KeepsQueue, without}
 use Rattle.history_model.proofs.Every.{every-All, every-weaker, every-filter, Pairwise, pairwise-append}
 use Rattle.script_plan.specs.Counts.{is_send, sends_in_items, sends_in_parts, sends_in_phases}
@@ -69,48 +71,61 @@ front-of : (x : Item) (r : Result (List Item) PlanFault) (xs : List Item) → th
 front-of x (Ok rest) xs is = (rest, refl, cc)
 front-of x (Err f) xs is = cc
 
--- what is planned for a host keeps the rules of its queue
+-- items that send the same commands
+abbrev pub SendsSame : List Item → List Item → Type 0
+SendsSame xs ys = (host phase ordinal : ℕ) (waiting : List Waiting) (taken : List ℕ)
+    → sends_of_items host phase ordinal waiting taken xs ≡ sends_of_items host phase ordinal waiting taken ys
+
+takes-send-none : (cids : List ℕ) → SendsSame (map (λ cid. item.Take cid) cids) []
+takes-send-none [] = λ host phase ordinal waiting taken. refl
+takes-send-none (cid ∷ cids) = λ host phase ordinal waiting taken.
+    takes-send-none cids host phase ordinal (filter (λ (w : Waiting). not (w.cid == cid)) waiting) (taken ++ ordinals_of cid waiting)
+
+-- what is planned for a host keeps the rules of its queue, and sends what its items send
 pub items-keep : (depth line : ℕ) (outstanding : List ℕ) (items xs : List Item) → Pairwise Differs outstanding → planned_items depth line outstanding items ≡ Ok xs
-    → KeepsQueue depth outstanding xs × (sends_in_items xs ≡ sends_in_items items)
+    → KeepsQueue depth outstanding xs × SendsSame xs items
 items-keep depth line outstanding [] xs distinct is =
-    let P : List Item → Type 0 = λ ys. KeepsQueue depth outstanding ys × (sends_in_items ys ≡ 0) in
+    let P : List Item → Type 0 = λ ys. KeepsQueue depth outstanding ys × SendsSame ys [] in
     let same : map (λ cid. item.Take cid) outstanding ≡ xs = cc in
-    subst P same (takes-keep depth outstanding distinct, no-sends outstanding)
-  where
-    no-sends : (cids : List ℕ) → sends_in_items (map (λ cid. item.Take cid) cids) ≡ 0
-    no-sends [] = refl
-    no-sends (cid ∷ cids) = omega (arith, sum_by-cons (λ (x : Item). cond {A = ℕ} (is_send x) 1 0) (item.Take cid) (map (λ c. item.Take c) cids), no-sends cids)
+    subst P same (takes-keep depth outstanding distinct, takes-send-none outstanding)
 items-keep depth line outstanding (item.Send cid command ∷ items) xs distinct is =
     go (nat_le depth (length outstanding)) (is_outstanding cid outstanding) refl refl is (λ rest none. items-keep depth (line + 1) (outstanding ++ cid ∷ []) items rest (distinct-more cid outstanding distinct none))
   where
     go : (full busy : Bool) → nat_le depth (length outstanding) ≡ full → is_outstanding cid outstanding ≡ busy
         → (if full then Err (record { line = line; breach = QueueFull }) else if busy then Err (record { line = line; breach = CidBusy }) else then_plan (λ rest. item.Send cid command ∷ rest) (planned_items depth (line + 1) (outstanding ++ cid ∷ []) items)) ≡ Ok xs
         → ((rest : List Item) → is_outstanding cid outstanding ≡ false → planned_items depth (line + 1) (outstanding ++ cid ∷ []) items ≡ Ok rest
-        → KeepsQueue depth (outstanding ++ cid ∷ []) rest × (sends_in_items rest ≡ sends_in_items items))
-        → KeepsQueue depth outstanding xs × (sends_in_items xs ≡ sends_in_items (item.Send cid command ∷ items))
+        → KeepsQueue depth (outstanding ++ cid ∷ []) rest × SendsSame rest items)
+        → KeepsQueue depth outstanding xs × SendsSame xs (item.Send cid command ∷ items)
     go true busy room free h more = cc
     go false true room free h more = cc
     go false false room free h more =
         let front = front-of (item.Send cid command) (planned_items depth (line + 1) (outstanding ++ cid ∷ []) items) xs h in
         let rest = more front.0 free front.1 in
         let below : length outstanding < depth = leb-false depth (length outstanding) room in
-        let P : List Item → Type 0 = λ ys. KeepsQueue depth outstanding ys × (sends_in_items ys ≡ sends_in_items (item.Send cid command ∷ items)) in
-        let weight = λ (x : Item). cond {A = ℕ} (is_send x) 1 0 in
-        subst P front.2 ((below, not-contained cid outstanding free, rest.0), omega (arith, sum_by-cons weight (item.Send cid command) front.0, rest.1, sum_by-cons weight (item.Send cid command) items))
+        let P : List Item → Type 0 = λ ys. KeepsQueue depth outstanding ys × SendsSame ys (item.Send cid command ∷ items) in
+        subst P front.2 (
+          (below, not-contained cid outstanding free, rest.0),
+          (λ host phase ordinal waiting taken.
+              let first : Sent = record { host = host; ordinal = ordinal; cid = cid; phase = phase; command = command.value; taken = taken } in
+              let here : Waiting = record { cid = cid; ordinal = ordinal } in
+              ap (λ l. first ∷ l) (rest.1 host phase (ordinal + 1) (waiting ++ here ∷ []) taken)),
+        )
 items-keep depth line outstanding (item.Take cid ∷ items) xs distinct is =
     go (is_outstanding cid outstanding) refl is (λ rest. items-keep depth (line + 1) (without cid outstanding) items rest (distinct-less cid outstanding distinct))
   where
     go : (found : Bool) → is_outstanding cid outstanding ≡ found
         → (if found then then_plan (λ rest. item.Take cid ∷ rest) (planned_items depth (line + 1) (without cid outstanding) items) else Err (record { line = line; breach = NotOutstanding })) ≡ Ok xs
         → ((rest : List Item) → planned_items depth (line + 1) (without cid outstanding) items ≡ Ok rest
-        → KeepsQueue depth (without cid outstanding) rest × (sends_in_items rest ≡ sends_in_items items))
-        → KeepsQueue depth outstanding xs × (sends_in_items xs ≡ sends_in_items (item.Take cid ∷ items))
+        → KeepsQueue depth (without cid outstanding) rest × SendsSame rest items)
+        → KeepsQueue depth outstanding xs × SendsSame xs (item.Take cid ∷ items)
     go true found h more =
         let front = front-of (item.Take cid) (planned_items depth (line + 1) (without cid outstanding) items) xs h in
         let rest = more front.0 front.1 in
-        let P : List Item → Type 0 = λ ys. KeepsQueue depth outstanding ys × (sends_in_items ys ≡ sends_in_items (item.Take cid ∷ items)) in
-        let weight = λ (x : Item). cond {A = ℕ} (is_send x) 1 0 in
-        subst P front.2 ((contained cid outstanding found, rest.0), omega (arith, sum_by-cons weight (item.Take cid) front.0, rest.1, sum_by-cons weight (item.Take cid) items))
+        let P : List Item → Type 0 = λ ys. KeepsQueue depth outstanding ys × SendsSame ys (item.Take cid ∷ items) in
+        subst P front.2 (
+          (contained cid outstanding found, rest.0),
+          (λ host phase ordinal waiting taken. rest.1 host phase ordinal (filter (λ (w : Waiting). not (w.cid == cid)) waiting) (taken ++ ordinals_of cid waiting)),
+        )
     go false found h more = cc
 
 -- two plans, joined
@@ -120,20 +135,33 @@ joined join (Ok a) (Ok b) c is = (a, b, refl, refl, cc)
 joined join (Ok a) (Err f) c is = cc
 joined join (Err e) s c is = cc
 
-pub parts-keep : (depth line : ℕ) (parts xs : List HostPart) → planned_parts depth line parts ≡ Ok xs
-    → AllByRecursion (KeepsPart depth) xs × (sends_in_parts xs ≡ sends_in_parts parts)
+abbrev pub part_hosts : List HostPart → List ℕ
+part_hosts parts = map (λ (part : HostPart). part.host) parts
+
+-- parts that keep the rules, of the same hosts, which send the same commands
+pub record PartsKept (depth : ℕ) (xs parts : List HostPart) : Type 0 where
+  pub queues : AllByRecursion (KeepsPart depth) xs
+  pub hosts : part_hosts xs ≡ part_hosts parts
+  pub sends : (phase : ℕ) (earlier : List Sent) → sends_of_parts phase earlier xs ≡ sends_of_parts phase earlier parts
+
+pub parts-keep : (depth line : ℕ) (parts xs : List HostPart) → planned_parts depth line parts ≡ Ok xs → PartsKept depth xs parts
 parts-keep depth line [] xs is =
-    let P : List HostPart → Type 0 = λ ys. AllByRecursion (KeepsPart depth) ys × (sends_in_parts ys ≡ 0) in
+    let P : List HostPart → Type 0 = λ ys. PartsKept depth ys [] in
     let same : [] ≡ xs = cc in
-    subst P same (tt, refl)
+    subst P same (record { queues = tt; hosts = refl; sends = λ phase earlier. refl })
 parts-keep depth line (part ∷ parts) xs is =
     let join : List Item → List HostPart → List HostPart = λ items rest. record { host = part.host; items = items } ∷ rest in
     let split = joined join (planned_items depth (line + 1) [] part.items) (planned_parts depth (line + 1 + length part.items) parts) xs is in
     let first = items-keep depth (line + 1) [] part.items split.0 tt split.2 in
     let rest = parts-keep depth (line + 1 + length part.items) parts split.1 split.3 in
-    let new : HostPart = record { host = part.host; items = split.0 } in
-    let P : List HostPart → Type 0 = λ ys. AllByRecursion (KeepsPart depth) ys × (sends_in_parts ys ≡ sends_in_parts (part ∷ parts)) in
-    subst P split.4 ((first.0, rest.0), omega (arith, sends_in_parts-cons new split.1, sends_in_parts-cons part parts, first.1, rest.1))
+    let P : List HostPart → Type 0 = λ ys. PartsKept depth ys (part ∷ parts) in
+    subst P split.4 (record {
+      queues = (first.0, rest.queues);
+      hosts = ap (λ l. part.host ∷ l) rest.hosts;
+      sends = λ phase earlier.
+          ap (λ s. sends_of_parts phase (earlier ++ s) split.1) (first.1 part.host phase (next_ordinal part.host earlier) [] [])
+          ∙ rest.sends phase (earlier ++ sends_of_items part.host phase (next_ordinal part.host earlier) [] [] part.items);
+    })
 
 -- a phase with a host, each of whose parts keeps the rules
 pub record IsKeptPhase (depth : ℕ) (phase : Phase) : Type 0 where
@@ -147,25 +175,32 @@ some-planned depth line part parts xs is =
     let P : List HostPart → Type 0 = λ ys. 0 < length ys in
     subst P split.4 (omega arith)
 
-hosts-keep : (depth line : ℕ) (parts xs : List HostPart) → planned_hosts depth line parts ≡ Ok xs
-    → IsKeptPhase depth (record { hosts = xs }) × (sends_in_parts xs ≡ sends_in_parts parts)
+hosts-keep : (depth line : ℕ) (parts xs : List HostPart) → planned_hosts depth line parts ≡ Ok xs → (0 < length xs) × PartsKept depth xs parts
 hosts-keep depth line [] xs is = cc
-hosts-keep depth line (part ∷ parts) xs is =
-    let keep = parts-keep depth (line + 1) (part ∷ parts) xs is in
-    (record { acted = some-planned depth (line + 1) part parts xs is; queues = keep.0 }, keep.1)
+hosts-keep depth line (part ∷ parts) xs is = (some-planned depth (line + 1) part parts xs is, parts-keep depth (line + 1) (part ∷ parts) xs is)
+
+-- phases that keep the rules, of the same hosts, which send the same commands
+pub record PhasesKept (depth : ℕ) (xs phases : List Phase) : Type 0 where
+  pub rules : AllByRecursion (IsKeptPhase depth) xs
+  pub hosts : hosts_of xs ≡ hosts_of phases
+  pub sends : (phase : ℕ) (earlier : List Sent) → sends_of_phases phase earlier xs ≡ sends_of_phases phase earlier phases
 
 -- every plan keeps the rules, and sends what the script sends
-pub phases-keep : (depth line : ℕ) (phases xs : List Phase) → planned_phases depth line phases ≡ Ok xs
-    → AllByRecursion (IsKeptPhase depth) xs × (sends_in_phases xs ≡ sends_in_phases phases)
+pub phases-keep : (depth line : ℕ) (phases xs : List Phase) → planned_phases depth line phases ≡ Ok xs → PhasesKept depth xs phases
 phases-keep depth line [] xs is =
-    let P : List Phase → Type 0 = λ ys. AllByRecursion (IsKeptPhase depth) ys × (sends_in_phases ys ≡ 0) in
+    let P : List Phase → Type 0 = λ ys. PhasesKept depth ys [] in
     let same : [] ≡ xs = cc in
-    subst P same (tt, refl)
+    subst P same (record { rules = tt; hosts = refl; sends = λ phase earlier. refl })
 phases-keep depth line (phase ∷ phases) xs is =
     let join : List HostPart → List Phase → List Phase = λ hosts rest. record { hosts = hosts } ∷ rest in
     let split = joined join (planned_hosts depth line phase.hosts) (planned_phases depth (line + 1 + lines_of_parts phase.hosts) phases) xs is in
     let first = hosts-keep depth line phase.hosts split.0 split.2 in
     let rest = phases-keep depth (line + 1 + lines_of_parts phase.hosts) phases split.1 split.3 in
-    let new : Phase = record { hosts = split.0 } in
-    let P : List Phase → Type 0 = λ ys. AllByRecursion (IsKeptPhase depth) ys × (sends_in_phases ys ≡ sends_in_phases (phase ∷ phases)) in
-    subst P split.4 ((first.0, rest.0), omega (arith, sends_in_phases-cons new split.1, sends_in_phases-cons phase phases, first.1, rest.1))
+    let P : List Phase → Type 0 = λ ys. PhasesKept depth ys (phase ∷ phases) in
+    subst P split.4 (record {
+      rules = (record { acted = first.0; queues = first.1.queues }, rest.rules);
+      hosts = ap (λ l. l ∷ hosts_of split.1) first.1.hosts ∙ ap (λ l. part_hosts phase.hosts ∷ l) rest.hosts;
+      sends = λ number earlier.
+          ap (λ s. sends_of_phases (number + 1) s split.1) (first.1.sends number earlier)
+          ∙ rest.sends (number + 1) (sends_of_parts number earlier phase.hosts);
+    })

@@ -1,7 +1,7 @@
 // The plan of a script.
 ghost use Rattle.std.specs.Prelude.{◌≡◌, ◌+◌, ◌++◌, ◌<◌, ◌≤◌, ◌^◌, [], map, Ok, Err, All, IfOk, IfErr, OnOk, length};
 ghost use Rattle.script_cmds.specs.Text.{lines_of, phase_lines};
-ghost use Rattle.history_model.specs.Plain.{Takes, plain_item, plain_items, plain_part, plain_parts, plain_phase, plain_phases};
+ghost use Rattle.history_model.specs.Plain.{hosts_of, Takes, plain_item, plain_items, plain_part, plain_parts, plain_phase, plain_phases};
 ghost use Rattle.history_model.specs.Plan.{plan_of, planned_items, planned_parts, planned_hosts, planned_phases, lines_of_parts};
 ghost use Rattle.history_model.specs.Rules.{KeepsRules};
 ghost use Rattle.history_model.specs.Sent.{sends_of};
@@ -172,7 +172,11 @@ pub fn plan(alloc: Global, script: &Script) -> Result<Plan, PlanEnd>
     requires lines { length (lines_of script.now) ≤ 4294967294 }
     ensures planned { IfOk result (λ plan. meant plain_phase (plan_of script.now) ≡ Ok (plain_phases plan.phases)) }
     ensures fault { IfErr result (λ end. ForFault end (λ f. plan_of script.now ≡ Err f)) }
-    ensures sends { IfOk result (λ plan. (given : _) → plan_of script.now ≡ Ok given → sends_of given ≡ sends_of plan.phases) }
+
+    // The commands, by name, are those of the definition's plan and of the script, host by host.
+    ensures given { IfOk result (λ plan. (given : _) → plan_of script.now ≡ Ok given → sends_of given ≡ sends_of plan.phases) }
+    ensures sends { IfOk result (λ plan. sends_of plan.phases ≡ sends_of script.now.phases) }
+    ensures hosts { IfOk result (λ plan. hosts_of plan.phases ≡ hosts_of script.now.phases) }
     ensures commands { IfOk result (λ plan. plan.commands ≡ length (sends_of plan.phases)) }
     ensures rules { IfOk result (λ plan. All (KeepsRules script.now.config.depth) plan.phases) }
 {

@@ -2,7 +2,7 @@ use Rattle.std.proofs.Common.{◌+◌, length, ◌∙◌, ap, arith}
 use Rattle.script_cmds.specs.Text.{configuration_lines, phase_lines}
 use Rattle.script_plan.specs.Counts.{sends_in_phases}
 use Rattle.script_plan.proofs.Counting.{phases-fit}
-use Rattle.script_plan.proofs.Whole.{Means, keeps-rules, sends-same, sends-counted}
+use Rattle.script_plan.proofs.Whole.{Means, keeps-rules, hosts-same, sends-given, sends-same, sends-counted}
 use Rattle.script_plan.proofs.planning.plan.Goals as goal
 
 pub planned_phases-requires : goal.planned_phases-requires
@@ -17,9 +17,17 @@ returns-clause-commands c =
     c.phase_sends-commands.ensures ∙ ap sends_in_phases c.as_slice-phases.ensures
     ∙ sends-counted c.args.script.now.config.depth (length (configuration_lines c.args.script.now.config) + 1) c.args.script.now.phases c.in_ok-planned.planned (means c)
 
+pub returns-clause-given : goal.returns-clause-given
+returns-clause-given c =
+    sends-given c.args.script.now.config.depth (length (configuration_lines c.args.script.now.config) + 1) c.args.script.now.phases c.in_ok-planned.planned (means c)
+
 pub returns-clause-sends : goal.returns-clause-sends
 returns-clause-sends c =
     sends-same c.args.script.now.config.depth (length (configuration_lines c.args.script.now.config) + 1) c.args.script.now.phases c.in_ok-planned.planned (means c)
+
+pub returns-clause-hosts : goal.returns-clause-hosts
+returns-clause-hosts c =
+    hosts-same c.args.script.now.config.depth (length (configuration_lines c.args.script.now.config) + 1) c.args.script.now.phases c.in_ok-planned.planned (means c)
 
 pub returns-clause-rules : goal.returns-clause-rules
 returns-clause-rules c =
