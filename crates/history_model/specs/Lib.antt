@@ -1,4 +1,5 @@
 pub mod Entry
+pub mod Examples
 pub mod Legal
 pub mod Plain
 pub mod Plan

@@ -35,3 +35,7 @@ plain_phase phase = plain_parts phase.hosts
 -- the parts of each phase
 abbrev pub plain_phases : List Phase → List (List PlainPart)
 plain_phases phases = map plain_phase phases
+
+-- the hosts of each phase, in order
+abbrev pub hosts_of : List Phase → List (List ℕ)
+hosts_of phases = map (λ (phase : Phase). map (λ (part : HostPart). part.host) phase.hosts) phases

@@ -1,0 +1,60 @@
+-- Scripts and histories that serve as worked examples. This project's own.
+use Rattle.std.specs.Prelude.{ℕ, List, [], ◌∷◌}
+use Rattle.std.specs.declared.alloc.Global.{Global}
+use Rattle.std.specs.declared.sync.Arc.{Arc}
+use Rattle.cp_base.specs.Configuration.{Configuration, bare, with_size}
+use Rattle.cp_base.specs.declared.region.SpaceId.TheVariants as space
+use Rattle.cp_base.specs.declared.commands.Command.{Command}
+use Rattle.cp_base.specs.declared.commands.Command.TheVariants as command
+use Rattle.cp_base.specs.declared.replies.Status.TheVariants as status
+use Rattle.script_cmds.specs.declared.item.Item.{Item}
+use Rattle.script_cmds.specs.declared.item.Item.TheVariants as item
+use Rattle.script_cmds.specs.declared.item.HostPart.{HostPart}
+use Rattle.script_cmds.specs.declared.item.Phase.{Phase}
+use Rattle.script_cmds.specs.declared.script.Script.{Script}
+use Rattle.history_model.specs.Entry.{Entry}
+use Rattle.history_model.specs.Sent.{Sent}
+
+-- a device with one memory namespace of 16 bytes: two lines of a script
+abbrev pub small_device : ℕ → Configuration
+small_device depth = with_size (bare 512 depth 1) (space.Mem 1) 16
+
+-- a command is sent, shared like another one
+abbrev pub sending : Arc Command Global → ℕ → Command → Item
+sending shared cid cmd = item.Send cid (record shared { value = cmd })
+
+-- two bytes become 7
+abbrev pub fill : Command
+fill = command.MemFill 1 0 2 7
+
+-- the same two bytes are read
+abbrev pub look : Command
+look = command.MemRead 1 0 2
+
+abbrev pub part : ℕ → List Item → HostPart
+part host items = record { host = host; items = items }
+
+-- one phase of these parts
+abbrev pub one_phase : List HostPart → List Phase
+one_phase parts = record { hosts = parts } ∷ []
+
+abbrev pub script_of : ℕ → List Phase → Script
+script_of depth phases = record { config = small_device depth; phases = phases; shows = [] }
+
+-- one host, whose host line is the fourth
+abbrev pub one_host : ℕ → List Item → Script
+one_host depth items = script_of depth (one_phase (part 1 items ∷ []))
+
+-- two hosts side by side: one fills, the other reads
+abbrev pub two_hosts : Arc Command Global → List Phase
+two_hosts shared = one_phase (part 1 (sending shared 1 fill ∷ []) ∷ part 2 (sending shared 1 look ∷ []) ∷ [])
+
+abbrev pub filled : Sent
+filled = record { host = 1; ordinal = 1; cid = 1; phase = 1; command = fill; taken = [] }
+
+abbrev pub looked : Sent
+looked = record { host = 2; ordinal = 1; cid = 1; phase = 1; command = look; taken = [] }
+
+-- a command that was answered Ok with these bytes
+abbrev pub answered : Sent → List ℕ → Entry
+answered sent bytes = record { sent = sent; answer = record { status = status.Ok; result = 0; bytes = bytes } }

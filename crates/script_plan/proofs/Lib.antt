@@ -1,0 +1,7 @@
+pub mod Alike
+pub mod Counting
+pub mod Keeping
+pub mod Queue
+pub mod Steps
+pub mod Walk
+pub mod Whole

@@ -1,0 +1,89 @@
+-- A whole plan, from what its meaning is.
+use Rattle.std.proofs.Common.{◌≡◌, ℕ, ◌<◌, ◌+◌, List, [], ◌∷◌, map, length, Result, Ok, Err, refl, sym, ◌∙◌, ap, arith}
+use Rattle.std.specs.List.{AllByRecursion, All}
+use Rattle.std.proofs.lemmas.List.{length-map}
+use Rattle.script_cmds.specs.declared.item.HostPart.{HostPart}
+use Rattle.script_cmds.specs.declared.item.Phase.{Phase}
+use Rattle.history_model.specs.Plain.{PlainPart, hosts_of, plain_part, plain_parts, plain_phase, plain_phases}
+use Rattle.history_model.specs.Plan.{PlanFault, planned_phases}
+use Rattle.history_model.specs.Rules.{KeepsRules}
+use Rattle.history_model.specs.Sent.{sends_of}
+use Rattle.history_model.proofs.Every.{every-All}
+use Rattle.script_plan.specs.Counts.{sends_in_phases}
+use Rattle.script_plan.specs.Meant.{meant}
+use Rattle.script_plan.proofs.Alike.{KeepsPart, same-sends, parts-keep-same}
+use Rattle.script_plan.proofs.Counting.{length-sends_of}
+use Rattle.script_plan.proofs.Keeping.{IsKeptPhase, phases-keep}
+
+as-long : (xs ys : List HostPart) → plain_parts xs ≡ plain_parts ys → length xs ≡ length ys
+as-long xs ys same = sym (length-map xs plain_part) ∙ ap length same ∙ length-map ys plain_part
+
+-- a plan that says the same keeps the rules too
+phases-keep-same : (depth : ℕ) (xs ys : List Phase) → plain_phases xs ≡ plain_phases ys → AllByRecursion (IsKeptPhase depth) xs → AllByRecursion (KeepsRules depth) ys
+phases-keep-same depth [] [] same keeps = tt
+phases-keep-same depth [] (y ∷ ys) same keeps = cc
+phases-keep-same depth (x ∷ xs) [] same keeps = cc
+phases-keep-same depth (x ∷ xs) (y ∷ ys) same keeps =
+    let rest : plain_phases xs ≡ plain_phases ys = cc in
+    let first : plain_parts x.hosts ≡ plain_parts y.hosts = cc in (
+      record {
+        acted = omega (arith, keeps.0.acted, as-long x.hosts y.hosts first);
+        queues = every-All (KeepsPart depth) y.hosts (parts-keep-same depth x.hosts y.hosts first keeps.0.queues);
+      },
+      phases-keep-same depth xs ys rest keeps.1,
+    )
+
+-- a plan that means what the definition gives
+pub record Means (depth line : ℕ) (phases plan : List Phase) : Type 0 where
+  pub meaning : meant plain_phase (planned_phases depth line phases) ≡ Ok (plain_phases plan)
+
+-- the definition's plan, which says the same
+pub record IsGiven (depth line : ℕ) (phases plan : List Phase) : Type 0 where
+  pub given : List Phase
+  pub is : planned_phases depth line phases ≡ Ok given
+  pub same : plain_phases given ≡ plain_phases plan
+
+given-of : (depth line : ℕ) (phases plan : List Phase) → Means depth line phases plan → IsGiven depth line phases plan
+given-of depth line phases plan means = go (planned_phases depth line phases) refl means.meaning
+  where
+    go : (r : Result (List Phase) PlanFault) → planned_phases depth line phases ≡ r → meant plain_phase r ≡ Ok (plain_phases plan) → IsGiven depth line phases plan
+    go (Ok xs) is same = record { given = xs; is = is; same = cc }
+    go (Err f) is same = cc
+
+pub keeps-rules : (depth line : ℕ) (phases plan : List Phase) → Means depth line phases plan → All (KeepsRules depth) plan
+keeps-rules depth line phases plan means =
+    let g = given-of depth line phases plan means in
+    every-All (KeepsRules depth) plan (phases-keep-same depth g.given plan g.same (phases-keep depth line phases g.given g.is).rules)
+
+-- it sends what the script sends
+pub sends-same : (depth line : ℕ) (phases plan : List Phase) → Means depth line phases plan → sends_of plan ≡ sends_of phases
+sends-same depth line phases plan means =
+    let g = given-of depth line phases plan means in
+    sym (same-sends g.given plan g.same) ∙ (phases-keep depth line phases g.given g.is).sends 1 []
+
+-- which is what the definition's plan sends
+pub sends-given : (depth line : ℕ) (phases plan : List Phase) → Means depth line phases plan → (xs : List Phase) → planned_phases depth line phases ≡ Ok xs
+    → sends_of xs ≡ sends_of plan
+sends-given depth line phases plan means xs is = (phases-keep depth line phases xs is).sends 1 [] ∙ sym (sends-same depth line phases plan means)
+
+-- and as many commands as the script
+pub sends-counted : (depth line : ℕ) (phases plan : List Phase) → Means depth line phases plan → sends_in_phases phases ≡ length (sends_of plan)
+sends-counted depth line phases plan means = sym (length-sends_of phases) ∙ ap length (sym (sends-same depth line phases plan means))
+
+plain_hosts : List (List PlainPart) → List (List ℕ)
+plain_hosts phases = map (λ parts. map (λ (part : PlainPart). part.host) parts) phases
+
+hosts-plain : (phases : List Phase) → hosts_of phases ≡ plain_hosts (plain_phases phases)
+unfolding plain_hosts
+hosts-plain [] = refl
+hosts-plain (phase ∷ phases) = ap (λ l. l ∷ hosts_of phases) (parts-plain phase.hosts) ∙ ap (λ l. map (λ (part : PlainPart). part.host) (plain_parts phase.hosts) ∷ l) (hosts-plain phases)
+  where
+    parts-plain : (parts : List HostPart) → map (λ (part : HostPart). part.host) parts ≡ map (λ (part : PlainPart). part.host) (plain_parts parts)
+    parts-plain [] = refl
+    parts-plain (part ∷ parts) = ap (λ l. part.host ∷ l) (parts-plain parts)
+
+-- the same hosts act in it
+pub hosts-same : (depth line : ℕ) (phases plan : List Phase) → Means depth line phases plan → hosts_of plan ≡ hosts_of phases
+hosts-same depth line phases plan means =
+    let g = given-of depth line phases plan means in
+    hosts-plain plan ∙ ap plain_hosts (sym g.same) ∙ sym (hosts-plain g.given) ∙ (phases-keep depth line phases g.given g.is).hosts

@@ -1,0 +1,4 @@
+pub mod Cause
+pub mod Counts
+pub mod Meant
+pub mod Step
