@@ -1,0 +1,4 @@
+pub mod TrailLemmas
+pub mod Seats
+pub mod TurnSteps
+pub mod LentValue
