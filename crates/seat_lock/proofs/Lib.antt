@@ -2,3 +2,5 @@ pub mod TrailLemmas
 pub mod Seats
 pub mod TurnSteps
 pub mod LentValue
+pub mod SeatSteps
+pub mod PlaceLemmas

@@ -1,5 +1,6 @@
 -- What contracts say of locks, passes and turns. The crates above speak of them through these words alone.
-use Rattle.std.specs.Prelude.{◌≡◌, ℕ, ◌⊎◌, List, [], ◌∷◌, ◌++◌, Option, Some}
+use Rattle.std.specs.Prelude.{◌≡◌, ℕ, zero, suc, ◌≤◌, ◌⊎◌, List, [], ◌∷◌, ◌++◌, Option, Some, None, length, slice_get}
+use Rattle.std.specs.Prelude.{option_and_then}
 use Rattle.atomic_table.specs.Seated.{TableId}
 use Rattle.seat_lock.specs.Trails.{entries_by}
 use Rattle.seat_lock.specs.Views.{lone}
@@ -7,6 +8,7 @@ use Rattle.seat_lock.specs.declared.types.View.{View}
 use Rattle.seat_lock.specs.declared.types.SeatLock.{SeatLock}
 use Rattle.seat_lock.specs.declared.types.Pass.{Pass}
 use Rattle.seat_lock.specs.declared.types.Turn.{Turn}
+use Rattle.seat_lock.specs.declared.types.Passes.{Passes}
 
 module _ {E : Type 0} where
   -- the trail is the old one, or it and one entry of this party
@@ -80,3 +82,47 @@ module _ {V E F : Type 0} where
   -- the words that the party's lost tries read
   abbrev pub lost_in : Turn V E F → List ℕ
   lost_in t = t.seat.me.0.lost
+
+module _ {E F : Type 0} where
+  -- the pass in a place, if it is there
+  abbrev pub in_place : List (Option (Pass E F)) → ℕ → Option (Pass E F)
+  in_place places k = option_and_then (λ o. o) (slice_get places k)
+
+  -- the number of parties, from 1
+  abbrev pub seats_in : Passes E F → ℕ
+  seats_in ps = length ps.places.items
+
+  -- the pass of the party in its place, where the places are those of the parties from 1 on
+  abbrev pub home_in : List (Option (Pass E F)) → ℕ → Option (Pass E F)
+  home_in places zero = None
+  home_in places (suc k) = in_place places k
+
+  -- the pass of this party, if it is at home
+  abbrev pub at_home : Passes E F → ℕ → Option (Pass E F)
+  at_home ps n = home_in ps.places.items n
+
+  -- the pass of this party is at home, and it is of this lock
+  pub record IsHomeOf (party : E → ℕ) (lock : LockName F) (ps : Passes E F) (n : ℕ) (p : Pass E F) : Type 0 where
+    pub home : at_home ps n ≡ Some p
+    pub party_is : party_of p ≡ n
+    pub of_lock : IsPassOf party lock p
+
+  -- these passes are all of this lock, and all are at home
+  pub record AreAllOf (party : E → ℕ) (lock : LockName F) (ps : Passes E F) : Type 0 where
+    pub seats : seats_in ps ≡ lock.seats
+    pub each : (n : ℕ) → 1 ≤ n → n ≤ seats_in ps → (p : Pass E F) × IsHomeOf party lock ps n p
+
+  -- the pass of a party that has seen nothing, made nothing and lost no try. Party 1 has counted this many parties
+  pub record IsNewPass (lock : LockName F) (counted n : ℕ) (p : Pass E F) : Type 0 where
+    pub table : p.badge.table_id ≡ lock.table
+    pub fixed : (view_of p).fixed ≡ lock.fixed
+    pub party_is : p.number ≡ n
+    pub counts : n ≡ 1 → (view_of p).made ≡ counted
+    pub seen : seen_by p ≡ []
+    pub made : made_by p ≡ []
+    pub lost : lost_by p ≡ []
+
+  -- all passes of the lock are at home, and new
+  pub record AreAllNew (lock : LockName F) (ps : Passes E F) : Type 0 where
+    pub seats : seats_in ps ≡ lock.seats
+    pub each : (n : ℕ) → 1 ≤ n → n ≤ seats_in ps → (p : Pass E F) × (at_home ps n ≡ Some p) × IsNewPass lock lock.seats n p

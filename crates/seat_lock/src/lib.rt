@@ -2,7 +2,11 @@
 //! A pass is what one party carries between its turns: what it has seen of the trail, which entries it made, and the tries that it lost.
 #![tactic(auto)]
 
+mod making;
+mod places;
 mod plays;
+#[cfg(test)]
+mod tests;
 mod trailed;
 mod turns;
 mod types;

@@ -49,13 +49,15 @@ impl<V: Trailed> TableRule<Option<V>, View<V::Entry, V::Fixed>, About<V>> for Lo
 }
 
 /// A value behind a lock, of which one party at a time has the turn.
+#[derive(Drop)]
 pub struct SeatLock<V: Trailed> {
     pub(crate) table: Table<Option<V>, View<V::Entry, V::Fixed>, About<V>, LockRule, Global>,
     ghost sized: { (table.shared.table_id.words ≡ 2) × (table.shared.table_id.slots ≡ 1) },
 }
 
 /// What one party carries from turn to turn: what it has seen of the trail, what it made, and which tries it lost.
-/// It has to be given back: only with all passes does the lock meet or close.
+/// A pass that is dropped ends no turn, but the lock can then neither meet nor close.
+#[derive(Drop)]
 pub struct Pass<E, F> {
     pub(crate) badge: Badge<View<E, F>>,
     pub(crate) number: u32,
@@ -65,12 +67,13 @@ pub struct Pass<E, F> {
 }
 
 /// A turn that was not got: the word that was read, which is the number of the party that had the turn then.
+#[derive(Drop)]
 pub struct Held<E, F> {
     pub word: u64,
     pub pass: Pass<E, F>,
 }
 
-/// A turn: the value, until `leave`.
+/// A turn: the value, until `leave`. It is not `Drop`, so a turn that is taken is ended.
 pub struct Turn<'a, V: Trailed> {
     pub(crate) shared: &'a Shared<Option<V>, View<V::Entry, V::Fixed>, About<V>, LockRule>,
     pub(crate) seat: Seat<Option<V>, View<V::Entry, V::Fixed>>,
@@ -84,6 +87,7 @@ pub struct Turn<'a, V: Trailed> {
 }
 
 /// The passes of one lock, each at its place or handed out.
+#[derive(Drop)]
 pub struct Passes<E, F> {
     pub(crate) places: Vec<Option<Pass<E, F>>>,
     ghost few: { length places.items < 2 ^ 32 },
