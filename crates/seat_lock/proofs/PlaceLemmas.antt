@@ -168,3 +168,10 @@ module _ {E F : Type 0} where
 
   pub given_placed : (o : Option (Pass E F)) (q : Pass E F) → 0 < q.number → o ≡ Some q → (p : Pass E F) → o ≡ Some p → p.number ≡ q.number - 1 + 1
   given_placed o q pos is p e = ap (λ (x : Pass E F). x.number) (some_same p q (sym e ∙ is)) ∙ omega arith
+
+  module _ (party : E → ℕ) (lock : LockName F) where
+    pub some_home : (ps : Passes E F) (n : ℕ) → AreAllOf party lock ps → 1 ≤ n → n ≤ seats_in ps → IsSome (at_home ps n)
+    some_home ps n h from to = let t = h.each n from to in ap is_some t.1.home
+
+    pub of_lent : (ps : Passes E F) (n : ℕ) (p : Pass E F) → AreAllOf party lock ps → 1 ≤ n → n ≤ seats_in ps → at_home ps n ≡ Some p → IsPassOf party lock p
+    of_lent ps n p h from to e = let t = h.each n from to in subst (IsPassOf party lock) (some_same t.0 p (sym t.1.home ∙ e)) t.1.of_lock

@@ -1,9 +1,11 @@
-ghost use Rattle.std.specs.Prelude.{◌≡◌, ◌^◌, ◌<◌, length};
+ghost use Rattle.std.specs.Prelude.{◌≡◌, ◌≤◌, []};
+ghost use Rattle.seat_lock.specs.Passes.{AreAllOf, IsPassOf, lock_of, seats_in};
 
-use crate::{Held, SeatLock, Trailed, Turn};
-use std::alloc::AllocError;
+use crate::{Held, Pass, Passes, SeatLock, Trailed};
+use std::alloc::Global;
+use std::sync::Wait;
 use std::test::Fail;
-use std::thread::join;
+use std::thread::{Threads, join};
 
 // One line of a notebook: who wrote it, and which of this party's lines it is.
 #[derive(Clone, Copy)]
@@ -21,6 +23,7 @@ struct Notebook {
 
 impl Trailed for Notebook {
     type Entry = Line;
+
     type Fixed = u32;
 
     ghost entries = { λ n. n.lines.items };
@@ -34,33 +37,124 @@ impl Trailed for Notebook {
     }
 }
 
-#[test]
-fn a_turn_that_is_held_is_told_with_its_party(rt: HostRuntime) -> Result<(), Fail> {
-    let notebook = Notebook {
-        shelf: 7,
-        lines: Vec::new(rt.alloc()),
-    };
-    let (lock, mut passes) = SeatLock::new(rt.alloc(), notebook, 2)?;
+// Writes a line in a turn of its own, if the notebook is not full and there is memory.
+fn write<R: Wait>(
+    rt: &R,
+    lock: &SeatLock<Notebook>,
+    pass: Pass<Line, u32>,
+    number: u32,
+) -> Pass<Line, u32>
+    requires { IsPassOf ⟦<Notebook as Trailed>⟧.party (lock_of ⟦<Notebook as Trailed>⟧.fixed lock.now) pass }
+    ensures { IsPassOf ⟦<Notebook as Trailed>⟧.party (lock_of ⟦<Notebook as Trailed>⟧.fixed lock.now) result }
+{
+    let party = pass.party();
+    let mut turn = lock.enter(rt, pass);
+    let notebook = turn.value();
+    if notebook.lines.len() < 100_000 {
+        let _ = notebook.lines.push(Line { party, number });
+    }
+    turn.leave()
+}
+
+// The passes of the parties 1 and 2.
+fn two_passes(
+    lock: &SeatLock<Notebook>,
+    passes: &mut Passes<Line, u32>,
+) -> (Pass<Line, u32>, Pass<Line, u32>)
+    requires all { AreAllOf ⟦<Notebook as Trailed>⟧.party (lock_of ⟦<Notebook as Trailed>⟧.fixed lock.now) passes.old }
+    requires two { 2 ≤ seats_in passes.old }
+    ensures first { IsPassOf ⟦<Notebook as Trailed>⟧.party (lock_of ⟦<Notebook as Trailed>⟧.fixed lock.now) result.0 }
+    ensures second { IsPassOf ⟦<Notebook as Trailed>⟧.party (lock_of ⟦<Notebook as Trailed>⟧.fixed lock.now) result.1 }
+{
+    let _ = lock;
     let first = passes.lend(1);
     let second = passes.lend(2);
-    let turn = lock.enter(&rt, first);
-    match lock.try_enter(second) {
-        Ok(turn) => {
-            turn.leave();
-            panic!(rt; "the turn was taken twice");
-        }
-        Err(Held { word, pass: second }) => {
-            let first = turn.leave();
-            assert!(rt; word == 1 && first.party() == 1 && second.party() == 2);
-            match lock.try_enter(second) {
-                Ok(mut turn) => {
-                    let shelf = turn.value().shelf;
-                    turn.leave();
-                    assert!(rt; shelf == 7);
-                }
-                Err(_) => panic!(rt; "the turn was free"),
-            }
-        }
+    (first, second)
+}
+
+// The pass of the last party.
+fn last_pass(
+    lock: &SeatLock<Notebook>,
+    passes: &mut Passes<Line, u32>,
+    party: u32,
+) -> Pass<Line, u32>
+    requires all { AreAllOf ⟦<Notebook as Trailed>⟧.party (lock_of ⟦<Notebook as Trailed>⟧.fixed lock.now) passes.old }
+    requires last { (1 ≤ party) × (party ≡ seats_in passes.old) }
+    ensures { IsPassOf ⟦<Notebook as Trailed>⟧.party (lock_of ⟦<Notebook as Trailed>⟧.fixed lock.now) result }
+{
+    let _ = lock;
+    passes.lend(party)
+}
+
+// One try for the turn: the pass, and the word that was read, or 0 for a turn.
+fn try_once<V: Trailed>(
+    lock: &SeatLock<V>,
+    pass: Pass<V::Entry, V::Fixed>,
+) -> (Pass<V::Entry, V::Fixed>, u64)
+    requires { IsPassOf V.party (lock_of V.fixed lock.now) pass }
+    ensures { IsPassOf V.party (lock_of V.fixed lock.now) result.0 }
+{
+    match lock.try_enter(pass) {
+        Ok(turn) => (turn.leave(), 0),
+        Err(Held { word, pass }) => (pass, word),
     }
+}
+
+// The same from another thread.
+fn try_in_a_thread<V: Trailed + Send, R: Threads + Sync>(
+    rt: &R,
+    lock: &SeatLock<V>,
+    pass: Pass<V::Entry, V::Fixed>,
+) -> (Pass<V::Entry, V::Fixed>, u64)
+    requires { IsPassOf V.party (lock_of V.fixed lock.now) pass }
+    ensures { IsPassOf V.party (lock_of V.fixed lock.now) result.0 }
+{
+    let tried = join(
+        rt,
+        move || -> (Pass<V::Entry, V::Fixed>, u64)
+            requires { IsPassOf V.party (lock_of V.fixed lock.now) pass }
+            ensures { IsPassOf V.party (lock_of V.fixed lock.entry.now) result.0 }
+        { try_once(lock, pass) },
+        || (),
+    );
+    tried.0
+}
+
+fn empty_notebook(alloc: Global) -> Notebook
+    ensures { result.lines.items ≡ [] }
+{
+    Notebook {
+        shelf: 7,
+        lines: Vec::new(alloc),
+    }
+}
+
+#[test]
+fn a_turn_that_is_held_is_told_with_its_party(rt: HostRuntime) -> Result<(), Fail> {
+    let (lock, mut passes) = SeatLock::new(rt.alloc(), empty_notebook(rt.alloc()), 2)?;
+    let (first, second) = two_passes(&lock, &mut passes);
+    assert!(rt; first.party() == 1 && second.party() == 2);
+    let mut turn = lock.enter(&rt, first);
+    let shelf = turn.value().shelf;
+    let (second, held) = try_once(&lock, second);
+    let (second, held_for_a_thread) = try_in_a_thread(&rt, &lock, second);
+    let first = turn.leave();
+    let (second, free) = try_once(&lock, second);
+    assert!(rt; shelf == 7 && held == 1 && held_for_a_thread == 1 && free == 0);
+    assert!(rt; first.party() == 1 && second.party() == 2);
+    Ok(())
+}
+
+#[test]
+fn the_last_of_32_parties_writes_a_line(rt: HostRuntime) -> Result<(), Fail> {
+    let (lock, mut passes) = SeatLock::new(rt.alloc(), empty_notebook(rt.alloc()), 32)?;
+    let pass = last_pass(&lock, &mut passes, 32);
+    let pass = write(&rt, &lock, pass, 5);
+    let party = pass.party();
+    let mut turn = lock.enter(&rt, pass);
+    let lines = &turn.value().lines;
+    let written = lines.len() == 1 && lines[0].party == 32 && lines[0].number == 5;
+    turn.leave();
+    assert!(rt; party == 32 && written);
     Ok(())
 }
