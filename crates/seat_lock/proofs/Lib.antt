@@ -4,3 +4,5 @@ pub mod TurnSteps
 pub mod LentValue
 pub mod SeatSteps
 pub mod PlaceLemmas
+pub mod JoinSteps
+pub mod ClosingLemmas

@@ -7,9 +7,9 @@ use Rattle.seat_lock.specs.declared.types.Passes.{Passes}
 use Rattle.seat_lock.specs.Trails.{entries_by}
 use mathlib.Core.Logic.{dite}
 use native.Mathlib.Decide.{ℕ_discrete}
-use Rattle.seat_lock.specs.Passes.{LockName, in_place, home_in, at_home, seats_in, seen_by, made_by, lost_by, IsPassOf, IsHomeOf, IsNewPass, AreAllOf, AreAllNew}
+use Rattle.seat_lock.specs.Passes.{LockName, in_place, home_in, at_home, seats_in, party_of, seen_by, made_by, lost_by, IsPassOf, IsNewPass, AreAllOf, AreAllNew}
 
-some_same : {A : Type 0} (a b : A) → Some a ≡ Some b → a ≡ b
+pub some_same : {A : Type 0} (a b : A) → Some a ≡ Some b → a ≡ b
 some_same a b e = ap (λ o. unwrap_or o a) e
 
 module _ {A : Type 0} where
@@ -175,3 +175,25 @@ module _ {E F : Type 0} where
 
     pub of_lent : (ps : Passes E F) (n : ℕ) (p : Pass E F) → AreAllOf party lock ps → 1 ≤ n → n ≤ seats_in ps → at_home ps n ≡ Some p → IsPassOf party lock p
     of_lent ps n p h from to e = let t = h.each n from to in subst (IsPassOf party lock) (some_same t.0 p (sym t.1.home ∙ e)) t.1.of_lock
+
+  module _ (party : E → ℕ) (lock : LockName F) where
+    -- all passes are at home again, once that of the party m came back
+    pub all_with : (ps qs : Passes E F) (m : ℕ) (p : Pass E F) → AreAllOf party lock ps → seats_in qs ≡ seats_in ps → ((n : ℕ) → n ≢ m → at_home qs n ≡ at_home ps n) → at_home qs m ≡ Some p → party_of p ≡ m → IsPassOf party lock p → AreAllOf party lock qs
+    all_with ps qs m p all seats others home number of = record {
+      seats = seats ∙ all.seats;
+      each = λ n from to. dite (ℕ_discrete n m)
+          (λ e. (p, record { home = ap (at_home qs) e ∙ home; party_is = number ∙ sym e; of_lock = of }))
+          (λ other. let t = all.each n from (omega (arith, seats)) in (t.0, record { home = others n other ∙ t.1.home; party_is = t.1.party_is; of_lock = t.1.of_lock }));
+    }
+
+    -- the same of two parties
+    pub all_with_two : (ps qs : Passes E F) (m k : ℕ) (p q : Pass E F) → AreAllOf party lock ps → seats_in qs ≡ seats_in ps → ((n : ℕ) → n ≢ m → n ≢ k → at_home qs n ≡ at_home ps n) → at_home qs m ≡ Some p → party_of p ≡ m → IsPassOf party lock p
+        → at_home qs k ≡ Some q → party_of q ≡ k → IsPassOf party lock q → AreAllOf party lock qs
+    all_with_two ps qs m k p q all seats others home number of home' number' of' = record {
+      seats = seats ∙ all.seats;
+      each = λ n from to. dite (ℕ_discrete n m)
+          (λ e. (p, record { home = ap (at_home qs) e ∙ home; party_is = number ∙ sym e; of_lock = of }))
+          (λ other. dite (ℕ_discrete n k)
+          (λ e. (q, record { home = ap (at_home qs) e ∙ home'; party_is = number' ∙ sym e; of_lock = of' }))
+          (λ third. let t = all.each n from (omega (arith, seats)) in (t.0, record { home = others n other third ∙ t.1.home; party_is = t.1.party_is; of_lock = t.1.of_lock })));
+    }

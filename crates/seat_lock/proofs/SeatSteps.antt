@@ -1,21 +1,20 @@
 -- Cutting a view in two and joining two keep the rule.
-use Rattle.std.proofs.Common.{◌≡◌, ◌≢◌, ◌⊎◌, ℕ, zero, suc, ◌+◌, ◌^◌, ◌<◌, ◌≤◌, eqb, List, [], ◌∷◌, ◌++◌, length, set, Option, Some, None, Bool, true, false, true≢false, refl, sym, ap, ◌∙◌, subst, inl, inr, ⊎_elim, eq-eqb, ne_eqb, le_refl, arith, length-set, append-nil}
+use Rattle.std.proofs.Common.{◌≡◌, ◌≢◌, ◌⊎◌, ℕ, zero, suc, ◌+◌, ◌<◌, ◌≤◌, List, [], ◌∷◌, ◌++◌, length, set, Option, Some, true≢false, refl, sym, ap, ◌∙◌, subst, inl, ⊎_elim, ne_eqb, le_refl, arith, length-set}
 use Rattle.std.specs.Prelude.{All, cond, nat_lt, slice_index, slice_set, slice_index_or}
-use Rattle.std.proofs.lemmas.List.Elements.{All-weaker, All-head, All-tail, filter-append}
-use mathlib.Core.Option.{none, some, some-injective, some-ne-none}
+use Rattle.std.proofs.lemmas.List.Elements.{All-weaker, All-head, All-tail}
+use mathlib.Core.Option.{some, some-injective, some-ne-none}
 use mathlib.Core.Logic.{dite}
 use native.Mathlib.Decide.{ℕ_discrete}
 use lib.ListN.{get_elem?}
-use Rattle.atomic_table.specs.Table.{State, Me, Splits, Joins, opening, Final, Seen}
-use Rattle.atomic_table.proofs.Lists.{at_set, set_else, set_again, at_longer}
-use Rattle.seat_lock.specs.Trails.{BeginsWith, entries_by, longer}
-use Rattle.seat_lock.specs.Views.{first_view, new_party, note, account_of}
+use Rattle.atomic_table.specs.Table.{State, Splits, opening}
+use Rattle.atomic_table.proofs.Lists.{set_else, set_again, at_longer}
+use Rattle.seat_lock.specs.Trails.{BeginsWith, entries_by}
+use Rattle.seat_lock.specs.Views.{first_view, note}
 use Rattle.seat_lock.specs.Rule.{Ruled, ViewFits, AccountFits, IsMade}
-use Rattle.seat_lock.specs.Plays.{with_party_made, next_party, keeping, told}
+use Rattle.seat_lock.specs.Plays.{with_party_made, next_party}
 use Rattle.seat_lock.specs.declared.types.View.{View}
 use Rattle.seat_lock.specs.declared.types.Account.{Account}
 use Rattle.seat_lock.specs.declared.types.About.{About}
-use Rattle.seat_lock.proofs.TrailLemmas.{begins_same, begins_all}
 use Rattle.seat_lock.proofs.Seats.{set_at, each_set, each_push, put, put_here, put_else, put_stays}
 
 -- no entry has the number of a party that was not made
@@ -39,7 +38,7 @@ module _ {V E F : Type 0} (party : E → ℕ) (entries : V → List E) (fixed : 
   Fits = ViewFits party (fixed about.first.value)
 
   -- a note of a beginning of the trail fits any seat
-  note_fits : (trail : List E) (turn made : ℕ) (seat_of : ℕ → ℕ) (seat : ℕ) (seen : List E) → BeginsWith trail seen → Fits trail turn made seat_of seat (note seen)
+  pub note_fits : (trail : List E) (turn made : ℕ) (seat_of : ℕ → ℕ) (seat : ℕ) (seen : List E) → BeginsWith trail seen → Fits trail turn made seat_of seat (note seen)
   note_fits trail turn made seat_of seat seen b = record {
     seen = b;
     mine = λ z. absurd (z refl);
@@ -84,14 +83,14 @@ module _ {V E F : Type 0} (party : E → ℕ) (entries : V → List E) (fixed : 
       one (suc k) v e = absurd (some-ne-none v (sym e))
 
   -- the view of the seat that has the turn, after one other change
-  held : (l : List D) (id seat turn : ℕ) (v w u : D) → get_elem? l id ≡ some v → w.number ≡ v.number → get_elem? l seat ≡ some u → u.number ≡ turn
+  pub held : (l : List D) (id seat turn : ℕ) (v w u : D) → get_elem? l id ≡ some v → w.number ≡ v.number → get_elem? l seat ≡ some u → u.number ≡ turn
       → (x : D) × (get_elem? (set l id w) seat ≡ some x) × (x.number ≡ turn)
   held l id seat turn v w u at same there is = dite (ℕ_discrete seat id)
       (λ e. let u_is : v ≡ u = some-injective v u (sym at ∙ (ap (get_elem? l) (sym e) ∙ there)) in (w, ap (get_elem? (set l id w)) e ∙ set_at l id v w at, same ∙ (ap (λ (d : D). d.number) u_is ∙ is)))
       (λ other. (u, set_else l id seat w other ∙ there, is))
 
   -- an account keeps its place where its party is not the one that moves
-  account_stays : (trail : List E) (made made' : ℕ) (seat_of : ℕ → ℕ) (q seat' seat own : ℕ) (a : Account E) → made ≤ made' → (a.number ≢ 0 → seat_of a.number ≡ seat → (a.number ≢ q) ⊎ (seat ≡ seat'))
+  pub account_stays : (trail : List E) (made made' : ℕ) (seat_of : ℕ → ℕ) (q seat' seat own : ℕ) (a : Account E) → made ≤ made' → (a.number ≢ 0 → seat_of a.number ≡ seat → (a.number ≢ q) ⊎ (seat ≡ seat'))
       → AccountFits party trail made seat_of seat own a → AccountFits party trail made' (put seat_of q seat') seat own a
   account_stays trail made made' seat_of q seat' seat own a le apart f = record {
     seen = f.seen;

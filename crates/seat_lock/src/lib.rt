@@ -2,6 +2,7 @@
 //! A pass is what one party carries between its turns: what it has seen of the trail, which entries it made, and the tries that it lost.
 #![tactic(auto)]
 
+mod closing;
 mod making;
 mod places;
 mod plays;

@@ -6,6 +6,13 @@ use crate::types::{Pass, Passes};
 use std::mem;
 
 impl<E, F> Passes<E, F> {
+    // The number of parties.
+    pub(crate) fn seats(&self) -> u32
+        ensures { result ≡ seats_in self.now }
+    {
+        self.places.len() as u32
+    }
+
     /// Hands out the pass of a party, which is at home.
     pub fn lend(&mut self, party: u32) -> Pass<E, F>
         requires { IsSome (at_home self.old party) }

@@ -1,5 +1,5 @@
-ghost use Rattle.std.specs.Prelude.{◌≡◌, ◌≤◌, []};
-ghost use Rattle.seat_lock.specs.Passes.{AreAllOf, IsPassOf, lock_of, seats_in};
+ghost use Rattle.std.specs.Prelude.{◌≡◌, ◌≢◌, ℕ, ◌≤◌, [], None};
+ghost use Rattle.seat_lock.specs.Passes.{AreAllOf, IsPassOf, at_home, lock_of, party_of, seats_in};
 
 use crate::{Held, Pass, Passes, SeatLock, Trailed};
 use std::alloc::Global;
@@ -45,7 +45,8 @@ fn write<R: Wait>(
     number: u32,
 ) -> Pass<Line, u32>
     requires { IsPassOf ⟦<Notebook as Trailed>⟧.party (lock_of ⟦<Notebook as Trailed>⟧.fixed lock.now) pass }
-    ensures { IsPassOf ⟦<Notebook as Trailed>⟧.party (lock_of ⟦<Notebook as Trailed>⟧.fixed lock.now) result }
+    ensures pass { IsPassOf ⟦<Notebook as Trailed>⟧.party (lock_of ⟦<Notebook as Trailed>⟧.fixed lock.now) result }
+    ensures party { party_of result ≡ party_of pass }
 {
     let party = pass.party();
     let mut turn = lock.enter(rt, pass);
@@ -56,6 +57,45 @@ fn write<R: Wait>(
     turn.leave()
 }
 
+// Writes the lines 0 to `count`, each in a turn of its own.
+fn write_many<R: Wait>(
+    rt: &R,
+    lock: &SeatLock<Notebook>,
+    pass: Pass<Line, u32>,
+    count: u32,
+) -> Pass<Line, u32>
+    requires { IsPassOf ⟦<Notebook as Trailed>⟧.party (lock_of ⟦<Notebook as Trailed>⟧.fixed lock.now) pass }
+    ensures pass { IsPassOf ⟦<Notebook as Trailed>⟧.party (lock_of ⟦<Notebook as Trailed>⟧.fixed lock.now) result }
+    ensures party { party_of result ≡ party_of pass }
+{
+    let mut pass = pass;
+    for number in 0..count {
+        pass = write(rt, lock, pass, number);
+    }
+    pass
+}
+
+// Two passes write lines, each in a thread of its own.
+fn write_both<R: Threads + Wait + Sync>(
+    rt: &R,
+    lock: &SeatLock<Notebook>,
+    first: Pass<Line, u32>,
+    second: Pass<Line, u32>,
+    count: u32,
+) -> (Pass<Line, u32>, Pass<Line, u32>)
+    requires first { IsPassOf ⟦<Notebook as Trailed>⟧.party (lock_of ⟦<Notebook as Trailed>⟧.fixed lock.now) first }
+    requires second { IsPassOf ⟦<Notebook as Trailed>⟧.party (lock_of ⟦<Notebook as Trailed>⟧.fixed lock.now) second }
+    ensures first { IsPassOf ⟦<Notebook as Trailed>⟧.party (lock_of ⟦<Notebook as Trailed>⟧.fixed lock.now) result.0 }
+    ensures second { IsPassOf ⟦<Notebook as Trailed>⟧.party (lock_of ⟦<Notebook as Trailed>⟧.fixed lock.now) result.1 }
+    ensures parties { (party_of result.0 ≡ party_of first) × (party_of result.1 ≡ party_of second) }
+{
+    join(
+        rt,
+        move || write_many(rt, lock, first, count),
+        move || write_many(rt, lock, second, count),
+    )
+}
+
 // The passes of the parties 1 and 2.
 fn two_passes(
     lock: &SeatLock<Notebook>,
@@ -63,6 +103,10 @@ fn two_passes(
 ) -> (Pass<Line, u32>, Pass<Line, u32>)
     requires all { AreAllOf ⟦<Notebook as Trailed>⟧.party (lock_of ⟦<Notebook as Trailed>⟧.fixed lock.now) passes.old }
     requires two { 2 ≤ seats_in passes.old }
+    ensures parties { (party_of result.0 ≡ 1) × (party_of result.1 ≡ 2) }
+    ensures empty { (at_home passes.new 1 ≡ None) × (at_home passes.new 2 ≡ None) }
+    ensures others { (n : ℕ) → n ≢ 1 → n ≢ 2 → at_home passes.new n ≡ at_home passes.old n }
+    ensures seats { seats_in passes.new ≡ seats_in passes.old }
     ensures first { IsPassOf ⟦<Notebook as Trailed>⟧.party (lock_of ⟦<Notebook as Trailed>⟧.fixed lock.now) result.0 }
     ensures second { IsPassOf ⟦<Notebook as Trailed>⟧.party (lock_of ⟦<Notebook as Trailed>⟧.fixed lock.now) result.1 }
 {
@@ -70,6 +114,23 @@ fn two_passes(
     let first = passes.lend(1);
     let second = passes.lend(2);
     (first, second)
+}
+
+// The parties 1 and 2 write lines, each from a thread of its own.
+fn write_in_threads<R: Threads + Wait + Sync>(
+    rt: &R,
+    lock: &SeatLock<Notebook>,
+    passes: &mut Passes<Line, u32>,
+    count: u32,
+)
+    requires all { AreAllOf ⟦<Notebook as Trailed>⟧.party (lock_of ⟦<Notebook as Trailed>⟧.fixed lock.now) passes.old }
+    requires two { 2 ≤ seats_in passes.old }
+    ensures { AreAllOf ⟦<Notebook as Trailed>⟧.party (lock_of ⟦<Notebook as Trailed>⟧.fixed lock.now) passes.new }
+{
+    let (first, second) = two_passes(lock, passes);
+    let (first, second) = write_both(rt, lock, first, second, count);
+    passes.give(first);
+    passes.give(second);
 }
 
 // The pass of the last party.
@@ -156,5 +217,21 @@ fn the_last_of_32_parties_writes_a_line(rt: HostRuntime) -> Result<(), Fail> {
     let written = lines.len() == 1 && lines[0].party == 32 && lines[0].number == 5;
     turn.leave();
     assert!(rt; party == 32 && written);
+    Ok(())
+}
+
+#[test]
+fn two_threads_leave_all_their_lines(rt: HostRuntime) -> Result<(), Fail> {
+    let (lock, mut passes) = SeatLock::new(rt.alloc(), empty_notebook(rt.alloc()), 2)?;
+    write_in_threads(&rt, &lock, &mut passes, 1000);
+    let notebook = lock.close(passes);
+    let mut next = [0u32; 3];
+    let mut in_order = true;
+    for line in &notebook.lines {
+        let party = (line.party % 3) as usize;
+        in_order = in_order && line.number == next[party];
+        next[party] = next[party].wrapping_add(1);
+    }
+    assert!(rt; notebook.lines.len() == 2000 && in_order && next == [0, 1000, 1000]);
     Ok(())
 }

@@ -1,6 +1,6 @@
 //! The types of the lock, and the rule of its table.
 //! Word 0 is the turn: 0, or the number of the party that has it. Word 1 is the number of entries. The one slot holds the value.
-ghost use Rattle.std.specs.Prelude.{◌≡◌, ◌≢◌, ℕ, ◌+◌, ◌<◌, ◌^◌, length, [], ◌∷◌, true, false, None, Some, slice_get};
+ghost use Rattle.std.specs.Prelude.{◌≡◌, ◌≢◌, ℕ, ◌+◌, ◌<◌, ◌≤◌, ◌^◌, length, [], ◌∷◌, true, false, None, Some, slice_get};
 ghost use Rattle.seat_lock.specs.Views.{first_view, lone};
 ghost use Rattle.seat_lock.specs.Rule.{Ruled};
 
@@ -53,6 +53,7 @@ impl<V: Trailed> TableRule<Option<V>, View<V::Entry, V::Fixed>, About<V>> for Lo
 pub struct SeatLock<V: Trailed> {
     pub(crate) table: Table<Option<V>, View<V::Entry, V::Fixed>, About<V>, LockRule, Global>,
     ghost sized: { (table.shared.table_id.words ≡ 2) × (table.shared.table_id.slots ≡ 1) },
+    ghost seated: { 1 ≤ table.shared.key.seats },
 }
 
 /// What one party carries from turn to turn: what it has seen of the trail, what it made, and which tries it lost.

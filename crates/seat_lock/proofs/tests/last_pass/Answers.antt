@@ -1,4 +1,4 @@
-use Rattle.std.proofs.Common.{le_refl, le_of_eq}
+use Rattle.std.proofs.Common.{le_of_eq}
 use Rattle.seat_lock.proofs.PlaceLemmas.{some_home, of_lent}
 use Rattle.seat_lock.proofs.tests.last_pass.Goals as goal
 

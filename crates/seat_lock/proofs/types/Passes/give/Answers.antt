@@ -1,6 +1,5 @@
-use Rattle.std.proofs.Common.{◌≡◌, ℕ, ◌+◌, ◌-◌, ◌<◌, length, Option, Some, refl, IsSome, get_or, sym, ap, ◌∙◌, subst, arith}
-use Rattle.seat_lock.specs.declared.types.Pass.{Pass}
-use Rattle.seat_lock.proofs.PlaceLemmas.{home_was, home_here, home_else, set_placed, given_placed}
+use Rattle.std.proofs.Common.{ℕ, ◌-◌, ◌<◌, length, Some, refl, arith}
+use Rattle.seat_lock.proofs.PlaceLemmas.{home_here, home_else, set_placed, given_placed}
 use Rattle.seat_lock.proofs.types.Passes.give.Goals as goal
 
 pub invariant_of-self-clause-placed : goal.invariant_of-self-clause-placed

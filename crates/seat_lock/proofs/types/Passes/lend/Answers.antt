@@ -1,4 +1,4 @@
-use Rattle.std.proofs.Common.{◌≡◌, ℕ, ◌-◌, Option, Some, IsSome, get_or, sym, ap, ◌∙◌, subst, arith}
+use Rattle.std.proofs.Common.{ℕ, ◌-◌, Option, Some, IsSome, get_or, sym, ap, ◌∙◌, subst, arith}
 use Rattle.seat_lock.specs.declared.types.Pass.{Pass}
 use Rattle.seat_lock.proofs.PlaceLemmas.{get_there, home_pos, home_within, home_was, home_here, home_else, set_placed}
 use Rattle.seat_lock.proofs.types.Passes.lend.Goals as goal

@@ -1,4 +1,4 @@
-use Rattle.std.proofs.Common.{◌≡◌, ℕ, ◌≤◌, Some, refl, ◌∙◌, arith}
+use Rattle.std.proofs.Common.{◌≡◌, ◌≤◌, Some, refl, ◌∙◌, arith}
 use Rattle.seat_lock.specs.Passes.{LockName, lock_of}
 use Rattle.seat_lock.proofs.PlaceLemmas.{dealt_more, dealt_placed, dealt_all, dealt_whole, first_placed, set_placed}
 use Rattle.seat_lock.proofs.types.SeatLock.deal.Goals as goal

@@ -1,6 +1,5 @@
-use Rattle.std.proofs.Common.{◌≡◌, ℕ, ◌-◌, rules, refl, sym, ap, ◌∙◌, arith}
+use Rattle.std.proofs.Common.{◌≡◌, ◌-◌, rules, refl, sym, ap, ◌∙◌, arith}
 use Rattle.seat_lock.specs.Views.{lone}
-use Rattle.seat_lock.specs.declared.types.View.{View}
 use Rattle.seat_lock.proofs.SeatSteps.{makes}
 use Rattle.seat_lock.proofs.types.SeatLock.next_pass.Goals as goal
 
