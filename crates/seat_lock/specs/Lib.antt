@@ -1,0 +1,7 @@
+pub mod Trails
+pub mod Views
+pub mod Rule
+pub mod Plays
+pub mod Passes
+pub mod Lending
+pub mod Closing
