@@ -1,5 +1,6 @@
 pub mod Checks
 pub mod Effect
+pub mod Examples
 pub mod Memory
 pub mod State
 pub mod Step

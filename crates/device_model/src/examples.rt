@@ -1,8 +1,49 @@
 // Worked examples of the definitions. The functions do nothing: what they ensure is what is proved.
-ghost use Rattle.std.specs.Prelude.{◌≡◌, []};
-ghost use Rattle.device_model.specs.State.{State, opening};
+ghost use Rattle.std.specs.Prelude.{◌≡◌, ◌∷◌, []};
+ghost use Rattle.device_model.specs.Examples.{from_memory, load, range, results, shown_after, statuses, write};
 
-/// In the opening state there is no set.
-pub fn opens_with_zeros()
-    ensures no_set { (c : _) → (opening c).sets ≡ [] }
+use cp_base::{Command, Status};
+
+/// Writes to a memory of 16 bytes.
+pub fn writes_by_example()
+    ensures first { shown_after (write 1 0 (1 ∷ 2 ∷ []) ∷ []) 0 4 ≡ 1 ∷ 2 ∷ 0 ∷ 0 ∷ [] }
+    ensures answered { statuses (write 1 0 (1 ∷ 2 ∷ []) ∷ []) ≡ Status.Ok ∷ [] }
+    ensures last { statuses (write 1 15 (1 ∷ []) ∷ []) ≡ Status.Ok ∷ [] }
+    ensures past { statuses (write 1 16 (1 ∷ []) ∷ []) ≡ Status.OutOfRange ∷ [] }
+    ensures unchanged { shown_after (write 1 16 (1 ∷ []) ∷ []) 0 4 ≡ 0 ∷ 0 ∷ 0 ∷ 0 ∷ [] }
+    ensures largest { statuses (write 1 18446744073709551615 (1 ∷ []) ∷ []) ≡ Status.OutOfRange ∷ [] }
+    ensures elsewhere { statuses (write 2 0 (1 ∷ []) ∷ []) ≡ Status.BadNamespace ∷ [] }
+    ensures nothing { statuses (write 1 0 [] ∷ []) ≡ Status.BadLength ∷ [] }
+{}
+
+/// Copies in a memory of 16 bytes that begins with 0, 1, 2, 3, 4, 5.
+pub fn copies_by_example()
+    ensures itself { statuses (write 1 0 (0 ∷ 1 ∷ 2 ∷ 3 ∷ 4 ∷ 5 ∷ []) ∷ Command.MemCopy 1 4 (from_memory 0 8 ∷ []) ∷ [])
+        ≡ Status.Ok ∷ Status.CopyOverlap ∷ [] }
+    ensures sources { shown_after (write 1 0 (0 ∷ 1 ∷ 2 ∷ 3 ∷ 4 ∷ 5 ∷ []) ∷ Command.MemCopy 1 8 (from_memory 0 4 ∷ from_memory 2 4 ∷ []) ∷ []) 8 8
+        ≡ 0 ∷ 1 ∷ 2 ∷ 3 ∷ 2 ∷ 3 ∷ 4 ∷ 5 ∷ [] }
+{}
+
+/// Sets of ranges of a memory of 16 bytes.
+pub fn sets_by_example()
+    ensures overlap { statuses (Command.SetCreate (range 0 8 ∷ range 4 8 ∷ []) ∷ []) ≡ Status.RangeOverlap ∷ [] }
+    ensures outside { statuses (Command.SetCreate (range 8 9 ∷ []) ∷ []) ≡ Status.OutOfRange ∷ [] }
+    ensures missing { statuses (Command.SetDelete 2 ∷ []) ≡ Status.NoSuchSet ∷ [] }
+    ensures least { results (Command.SetCreate (range 0 8 ∷ range 8 8 ∷ []) ∷ Command.SetCreate (range 0 1 ∷ [])
+        ∷ Command.SetDelete 1 ∷ Command.SetCreate (range 15 1 ∷ []) ∷ []) ≡ 1 ∷ 2 ∷ 0 ∷ 1 ∷ [] }
+{}
+
+/// A program of 16 bytes that is loaded in two pieces.
+pub fn slots_by_example()
+    ensures empty { statuses (Command.Activate 3 ∷ Command.Unload 3 ∷ Command.Deactivate 3 ∷ Command.Activate 64 ∷ [])
+        ≡ Status.SlotEmpty ∷ Status.SlotEmpty ∷ Status.SlotEmpty ∷ Status.NoSuchSlot ∷ [] }
+    ensures loading { statuses (
+        load 3 16 8 (149 ∷ 0 ∷ 0 ∷ 0 ∷ 0 ∷ 0 ∷ 0 ∷ 0 ∷ [])
+        ∷ load 3 16 8 (149 ∷ 0 ∷ 0 ∷ 0 ∷ 0 ∷ 0 ∷ 0 ∷ 0 ∷ [])
+        ∷ load 3 24 0 (183 ∷ 0 ∷ 0 ∷ 0 ∷ 7 ∷ 0 ∷ 0 ∷ 0 ∷ [])
+        ∷ Command.Activate 3
+        ∷ load 3 16 0 (183 ∷ 0 ∷ 0 ∷ 0 ∷ 7 ∷ 0 ∷ 0 ∷ 0 ∷ [])
+        ∷ load 3 16 0 (183 ∷ 0 ∷ 0 ∷ 0 ∷ 7 ∷ 0 ∷ 0 ∷ 0 ∷ [])
+        ∷ Command.Deactivate 3 ∷ [])
+        ≡ Status.Ok ∷ Status.PieceOverlap ∷ Status.SizeDiffers ∷ Status.SlotPartial ∷ Status.Ok ∷ Status.SlotComplete ∷ Status.SlotInactive ∷ [] }
 {}

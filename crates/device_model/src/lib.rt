@@ -3,4 +3,4 @@
 
 mod examples;
 
-pub use examples::opens_with_zeros;
+pub use examples::{copies_by_example, sets_by_example, slots_by_example, writes_by_example};

@@ -2,5 +2,7 @@
 #![tactic(auto)]
 
 mod device;
+#[cfg(test)]
+mod tests;
 
-pub use device::SeqDevice;
+pub use device::{MAX_TRANSFER, SeqDevice};

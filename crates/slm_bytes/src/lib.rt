@@ -3,6 +3,8 @@
 
 mod flat;
 mod ranges;
+#[cfg(test)]
+mod tests;
 
 pub use flat::Flat;
 pub use ranges::bytes_to_range;

@@ -1,0 +1,59 @@
+-- A small device and what it answers, for worked examples. This project's own.
+use Rattle.std.specs.Prelude.{ℕ, List, [], ◌∷◌, Option, Some, None, map, replicate, take, drop}
+use Rattle.cp_base.specs.Answer.{Answer}
+use Rattle.cp_base.specs.Configuration.{Configuration}
+use Rattle.cp_base.specs.Contents.{bytes_of}
+use Rattle.cp_base.specs.declared.commands.Command.{Command}
+use Rattle.cp_base.specs.declared.commands.Command.TheVariants as command
+use Rattle.cp_base.specs.declared.lists.CopySource.{CopySource}
+use Rattle.cp_base.specs.declared.lists.CopySource.TheVariants as source
+use Rattle.cp_base.specs.declared.lists.MemRange.{MemRange}
+use Rattle.cp_base.specs.declared.region.SpaceId.TheVariants as space
+use Rattle.cp_base.specs.declared.replies.Status.{Status}
+use Rattle.device_model.specs.Effect.{Outcome}
+use Rattle.device_model.specs.State.{State, opening}
+use Rattle.device_model.specs.Step.{outcome_of}
+
+-- blocks of 512 bytes, and memory namespace 1 of 16 bytes
+abbrev pub small : Configuration
+small = record { block = 512; depth = 16; budget = 1000; nvm = replicate 8 0; mem = 16 ∷ replicate 7 0 }
+
+abbrev pub write : ℕ → ℕ → List ℕ → Command
+write ns at bytes = command.MemWrite ns at (record { items = bytes; spare = 0 })
+
+abbrev pub load : ℕ → ℕ → ℕ → List ℕ → Command
+load slot size at bytes = command.Load slot size at (record { items = bytes; spare = 0 })
+
+abbrev pub from_memory : ℕ → ℕ → CopySource
+from_memory at len = source.Mem 1 at len
+
+abbrev pub range : ℕ → ℕ → MemRange
+range at len = record { ns = 1; at = at; len = len }
+
+-- the answers to commands that are carried out one after the other, and the state after them
+pub record Told : Type 0 where
+  pub answers : List Answer
+  pub state : State
+
+abbrev pub and_then : Outcome → Told → Told
+and_then outcome rest = record { answers = outcome.answer ∷ rest.answers; state = rest.state }
+
+abbrev pub told_by : State → Option Outcome → (State → Told) → Told
+told_by s None more = record { answers = []; state = s }
+told_by s (Some outcome) more = and_then outcome (more outcome.next)
+
+abbrev pub told : State → List Command → Told
+told s [] = record { answers = []; state = s }
+told s (cmd ∷ cmds) = told_by s (outcome_of small s cmd) (λ next. told next cmds)
+
+-- the statuses of commands on the small device, from its opening state on
+abbrev pub statuses : List Command → List Status
+statuses cmds = map (λ (answer : Answer). answer.status) (told (opening small) cmds).answers
+
+-- the results of commands on the small device
+abbrev pub results : List Command → List ℕ
+results cmds = map (λ (answer : Answer). answer.result) (told (opening small) cmds).answers
+
+-- len bytes from place at on of its memory, after these commands
+abbrev pub shown_after : List Command → ℕ → ℕ → List ℕ
+shown_after cmds at len = take len (drop at (bytes_of (told (opening small) cmds).state.contents (space.Mem 1)))

@@ -1,0 +1,65 @@
+// What no clause says: that calls succeed where there is memory, and worked examples.
+use crate::SeqDevice;
+use cp_base::{Bytes, Command, Config, SpaceId, Status};
+use std::alloc::Global;
+
+// A device with memory namespace 1 of so many bytes.
+fn device(alloc: Global, bytes: u32) -> Option<SeqDevice> {
+    let config = Config::new(512, 16, 1000)?.with_size(SpaceId::Mem(1), bytes)?;
+    SeqDevice::new(alloc, &config).ok()
+}
+
+// The status of a write of so many bytes, each 1, and the first byte after it.
+fn write(alloc: Global, bytes: u32, ns: u32, at: u64, len: u64) -> Option<(Status, Option<u8>)> {
+    let mut device = device(alloc, bytes)?;
+    let bytes = Bytes::filled(alloc, len, 1).ok()?;
+    let reply = device.step(&Command::MemWrite { ns, at, bytes });
+    Some((reply.status, device.byte(SpaceId::Mem(1), at)))
+}
+
+#[test]
+fn writes_are_checked_in_order(rt: HostRuntime) {
+    for (bytes, ns, at, len, status, byte) in [
+        (16, 1, 0, 2, Status::Ok, Some(1)),
+        (16, 1, 15, 1, Status::Ok, Some(1)),
+        (16, 1, 16, 1, Status::OutOfRange, None),
+        (16, 1, u64::MAX, 1, Status::OutOfRange, None),
+        (16, 2, 0, 1, Status::BadNamespace, Some(0)),
+        (16, 1, 0, 0, Status::BadLength, Some(0)),
+        (16_384, 1, 0, 8192, Status::Ok, Some(1)),
+        (16_384, 1, 0, 8193, Status::TooLong, Some(0)),
+    ] {
+        let answer = write(rt.alloc(), bytes, ns, at, len);
+        assert_eq!(rt; answer, Some((status, byte)), "{len} bytes at {at} of {ns}");
+    }
+}
+
+// What a read answers after `01 02` was written at place 0: its status, how many bytes, and the last.
+fn read(alloc: Global, len: u64) -> Option<(Status, u64, Option<u8>)> {
+    let mut device = device(alloc, 16_384)?;
+    let bytes = Bytes::from_slice(alloc, &[1, 2]).ok()?;
+    let _ = device.step(&Command::MemWrite {
+        ns: 1,
+        at: 0,
+        bytes,
+    });
+    let reply = device.step(&Command::MemRead { ns: 1, at: 0, len });
+    let read = reply.bytes.len();
+    Some((reply.status, read, reply.bytes.get(read.saturating_sub(1))))
+}
+
+#[test]
+fn reads_give_what_was_written(rt: HostRuntime) {
+    for (len, status, count, last) in [
+        (2, Status::Ok, 2, Some(2)),
+        (3, Status::Ok, 3, Some(0)),
+        (0, Status::BadLength, 0, None),
+        (8193, Status::TooLong, 0, None),
+    ] {
+        assert_eq!(rt;
+            read(rt.alloc(), len),
+            Some((status, count, last)),
+            "{len} bytes"
+        );
+    }
+}

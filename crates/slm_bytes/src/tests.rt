@@ -1,0 +1,59 @@
+// What no clause says: that calls succeed where there is memory, and worked examples.
+use crate::{Flat, bytes_to_range};
+use cp_base::{ByteRange, Bytes, Config, SpaceId, Status};
+use std::alloc::Global;
+
+// A device with memory namespace 1 of so many bytes.
+fn memory_1(bytes: u32) -> Option<Config> {
+    Config::new(512, 16, 1000)?.with_size(SpaceId::Mem(1), bytes)
+}
+
+// What the checks of a range answer; `Ok` where they pass.
+fn checked(bytes: u32, ns: u32, at: u64, len: u64) -> Option<Status> {
+    match bytes_to_range(&memory_1(bytes)?, ns, at, len, 8192) {
+        Ok(_) => Some(Status::Ok),
+        Err(status) => Some(status),
+    }
+}
+
+#[test]
+fn ranges_are_checked_in_order(rt: HostRuntime) {
+    for (bytes, ns, at, len, status) in [
+        (16, 1, 0, 2, Status::Ok),
+        (16, 1, 15, 1, Status::Ok),
+        (16, 1, 16, 1, Status::OutOfRange),
+        (16, 1, u64::MAX, 1, Status::OutOfRange),
+        (16, 2, 0, 1, Status::BadNamespace),
+        (16, 0, 0, 0, Status::BadNamespace),
+        (16_384, 1, 0, 0, Status::BadLength),
+        (16_384, 1, 0, 8192, Status::Ok),
+        (16_384, 1, 16_384, 8193, Status::TooLong),
+    ] {
+        let answer = checked(bytes, ns, at, len);
+        assert_eq!(rt; answer, Some(status), "{len} bytes at {at} of {ns}");
+    }
+}
+
+// The first bytes of a memory of 16 bytes of which some were written, and the byte behind them.
+fn written(alloc: Global, from: &[u8]) -> Option<(Bytes, Option<u8>)> {
+    let mut flat = Flat::new(alloc, &memory_1(16)?).ok()?;
+    let bytes = Bytes::from_slice(alloc, from).ok()?;
+    let range = ByteRange::new(SpaceId::Mem(1), 0, bytes.len())?;
+    if range.end() > 16 || flat.byte(SpaceId::Mem(1), 15) != Some(0) {
+        return None;
+    }
+    flat.patch(&range, &bytes);
+    let behind = flat.byte(SpaceId::Mem(1), range.end());
+    Some((flat.piece(&range).ok()?, behind))
+}
+
+#[test]
+fn bytes_are_kept(rt: HostRuntime) {
+    let found = written(rt.alloc(), &[1, 2]);
+    assert!(rt; found.is_some());
+    if let Some((bytes, behind)) = found {
+        assert_eq!(rt; bytes.get(0), Some(1));
+        assert_eq!(rt; bytes.get(1), Some(2));
+        assert_eq!(rt; behind, Some(0));
+    }
+}
