@@ -5,8 +5,12 @@ use Rattle.script_cmds.specs.declared.fault.TextCause.TheVariants as cause
 use Rattle.script_cmds.specs.declared.word.CommandWord.{CommandWord}
 use Rattle.script_cmds.specs.declared.word.CommandWord.TheVariants as word
 use Rattle.script_cmds.specs.Field.{parts_between, read_fields}
-use Rattle.script_cmds.specs.Line.{Kind, Nvm, Send, ShowNvm, kind_of, fields_of}
-use Rattle.script_cmds.specs.Progress.{Progress, start, is_in_order, is_within_limits, advanced, is_start}
+use Rattle.script_cmds.specs.declared.fault.ScriptFault.{ScriptFault}
+use Rattle.script_cmds.specs.declared.kind.LineKind.{LineKind}
+use Rattle.script_cmds.specs.declared.kind.LineKind.TheVariants.{Nvm, Send, ShowNvm}
+use Rattle.script_cmds.specs.declared.progress.Progress.{Progress}
+use Rattle.script_cmds.specs.Line.{Line, kind_of, fields_of}
+use Rattle.script_cmds.specs.Progress.{start, is_in_order, is_within_limits, advanced, is_start}
 
 -- which words this version of the program knows. The others come one by one, and with the last of them
 -- this predicate goes.
@@ -15,7 +19,7 @@ is_built_word word.MemRead = true
 is_built_word word.MemWrite = true
 is_built_word _ = false
 
-abbrev pub is_built_kind : Kind → Bool
+abbrev pub is_built_kind : LineKind → Bool
 is_built_kind Nvm = false
 is_built_kind ShowNvm = false
 is_built_kind (Send word) = is_built_word word
@@ -32,38 +36,48 @@ abbrev pub unless : {A : Type 0} → Bool → TextCause → A → Result A TextC
 unless true e x = Ok x
 unless false e x = Err e
 
--- A line by its text, without its newline: its kind by its words, its fields, its place and its limits
--- are looked at in this order, and the first of them that is wrong is the cause.
-abbrev pub read_line : Progress → List ℕ → Result Progress TextCause
-read_line p text = do
+-- what a line says by its text, without its newline: its kind by its words, then its fields
+abbrev pub line_of : List ℕ → Result Line TextCause
+line_of text = do
   let fields : List (List ℕ) = parts_between 32 text
   kind ← kind_of fields
   built ← unless (is_built_kind kind) cause.Word kind
   values ← read_fields (fields_of built) fields
-  ordered ← unless (is_in_order p.stage kind values) cause.Order values
-  unless (is_within_limits p kind ordered) cause.Limit (advanced p kind ordered)
+  Ok (record { kind = built; values = values })
 
--- a fault: the line, counted from 1, and its cause
-pub record Fault : Type 0 where
-  pub line : ℕ
-  pub cause : TextCause
+-- what there is after a line, by its place and then its limits
+abbrev pub judged : Progress → Line → Result Progress TextCause
+judged p line =
+    if is_in_order p.stage line.kind line.values then
+      if is_within_limits p line.kind line.values then Ok (advanced p line.kind line.values) else Err cause.Limit
+    else Err cause.Order
 
-abbrev pub fault_at : ℕ → TextCause → Option Fault
+-- A line by its text: its kind, its fields, its place and its limits are looked at in this order, and
+-- the first of them that is wrong is the cause.
+abbrev pub read_line : Progress → List ℕ → Result Progress TextCause
+read_line p text = line_of text >>= judged p
+
+-- what there is after lines, where each of them is in its place and keeps its limits
+abbrev pub after_lines : Progress → List Line → Result Progress TextCause
+after_lines p [] = Ok p
+after_lines p (line ∷ lines) = judged p line >>= λ p'. after_lines p' lines
+
+abbrev pub fault_at : ℕ → TextCause → Option ScriptFault
 fault_at line cause = Some (record { line = line; cause = cause })
 
 -- the fault of a line, or else what the lines after it give
-abbrev pub fault_or : ℕ → Result Progress TextCause → (Progress → Option Fault) → Option Fault
+abbrev pub fault_or : ℕ → Result Progress TextCause → (Progress → Option ScriptFault) → Option ScriptFault
 fault_or number (Err e) more = fault_at number e
 fault_or number (Ok p) more = more p
 
 -- the first fault of lines, of which the first has this number; the last of them is what stands after
 -- the last newline, and so has to be empty, and a text without any line lacks its header
-abbrev pub fault_from : Progress → ℕ → List (List ℕ) → Option Fault
+abbrev pub fault_from : Progress → ℕ → List (List ℕ) → Option ScriptFault
 fault_from p number [] = None
 fault_from p number ([] ∷ []) = if is_start p.stage then fault_at number cause.Order else None
 fault_from p number ((byte ∷ rest) ∷ []) = fault_at number cause.Word
 fault_from p number (text ∷ next ∷ texts) = fault_or number (read_line p text) (λ p'. fault_from p' (number + 1) (next ∷ texts))
 
 -- the first fault of a text, where it has one
-abbrev pub first_fault : List ℕ → Option Fault
+abbrev pub first_fault : List ℕ → Option ScriptFault
 first_fault text = fault_from start 1 (parts_between 10 text)

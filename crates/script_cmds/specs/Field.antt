@@ -6,6 +6,7 @@ use Rattle.cp_text.specs.Number.{number_of}
 use Rattle.cp_base.specs.declared.lists.CopySource.{CopySource}
 use Rattle.cp_base.specs.declared.lists.CopySource.TheVariants as source
 use Rattle.cp_base.specs.declared.lists.MemRange.{MemRange}
+use Rattle.script_cmds.specs.declared.field.Triple.{Triple}
 use Rattle.script_cmds.specs.declared.fault.TextCause.{TextCause}
 use Rattle.script_cmds.specs.declared.fault.TextCause.TheVariants as cause
 
@@ -17,16 +18,12 @@ pub data Field : Type 0 where
   Sources : (name : List ℕ) → Field
   Ranges : (name : List ℕ) → Field
 
--- what the fields of a line say: its numbers in order, and its data, sources and ranges, of which a
--- line has each at most once
-pub record Values : Type 0 where
-  pub numbers : List ℕ
-  pub bytes : List ℕ
-  pub sources : List CopySource
-  pub ranges : List MemRange
-
-abbrev pub nothing : Values
-nothing = record { numbers = []; bytes = []; sources = []; ranges = [] }
+-- what one field of a line says
+pub data Value : Type 0 where
+  Count : (number : ℕ) → Value
+  Data : (bytes : List ℕ) → Value
+  Copied : (sources : List CopySource) → Value
+  Covered : (ranges : List MemRange) → Value
 
 -- the parts of a list that a byte divides, one more than there are such bytes
 abbrev pub begin_part : ℕ → List (List ℕ) → List (List ℕ)
@@ -55,15 +52,14 @@ source_text (source.Mem ns at len) = 109 ∷ triple_text ns at len
 abbrev pub range_text : MemRange → List ℕ
 range_text range = triple_text range.ns range.at range.len
 
--- the texts of a line's fields, the numbers taken in their order
-abbrev pub field_texts : List Field → List ℕ → Values → List (List ℕ)
-field_texts [] numbers values = []
-field_texts (Word text ∷ fields) numbers values = text ∷ field_texts fields numbers values
-field_texts (Number name ∷ fields) [] values = []
-field_texts (Number name ∷ fields) (n ∷ numbers) values = (name ++ decimal n) ∷ field_texts fields numbers values
-field_texts (Hex name ∷ fields) numbers values = (name ++ hex_text values.bytes) ∷ field_texts fields numbers values
-field_texts (Sources name ∷ fields) numbers values = (name ++ joined_by 44 (map source_text values.sources)) ∷ field_texts fields numbers values
-field_texts (Ranges name ∷ fields) numbers values = (name ++ joined_by 44 (map range_text values.ranges)) ∷ field_texts fields numbers values
+-- the texts of a line's fields, from what they say one after the other; a word says nothing more
+abbrev pub field_texts : List Field → List Value → List (List ℕ)
+field_texts (Word text ∷ fields) values = text ∷ field_texts fields values
+field_texts (Number name ∷ fields) (Count n ∷ values) = (name ++ decimal n) ∷ field_texts fields values
+field_texts (Hex name ∷ fields) (Data bytes ∷ values) = (name ++ hex_text bytes) ∷ field_texts fields values
+field_texts (Sources name ∷ fields) (Copied sources ∷ values) = (name ++ joined_by 44 (map source_text sources)) ∷ field_texts fields values
+field_texts (Ranges name ∷ fields) (Covered ranges ∷ values) = (name ++ joined_by 44 (map range_text ranges)) ∷ field_texts fields values
+field_texts _ _ = []
 
 -- which of two causes comes first in the order Word, Field, Number, Hex, Order, Limit
 abbrev pub rank_of : TextCause → ℕ
@@ -88,7 +84,7 @@ both join (Err e) (Err f) = Err (first_of_two e f)
 abbrev pub after_name : List ℕ → List ℕ → Option (List ℕ)
 after_name [] text = Some text
 after_name (c ∷ cs) [] = None
-after_name (c ∷ cs) (d ∷ ds) = if c == d then after_name cs ds else None
+after_name (c ∷ cs) (d ∷ ds) = if d == c then after_name cs ds else None
 
 -- a value, or the cause that there is none
 abbrev pub or_cause : {A : Type 0} → TextCause → Option A → Result A TextCause
@@ -99,44 +95,55 @@ or_cause e (Some x) = Ok x
 abbrev pub read_number : List ℕ → Result ℕ TextCause
 read_number text = or_cause cause.Number (number_of text)
 
--- three numbers, put together by a function
-abbrev pub read_triple : {A : Type 0} → (ℕ → ℕ → ℕ → A) → List (List ℕ) → Result A TextCause
-read_triple make (a ∷ b ∷ c ∷ []) = both (λ f z. f z) (both make (read_number a) (read_number b)) (read_number c)
-read_triple make _ = Err cause.Field
+-- what was read, changed by a function
+abbrev pub changed : {A B : Type 0} → (A → B) → Result A TextCause → Result B TextCause
+changed f (Ok x) = Ok (f x)
+changed f (Err e) = Err e
+
+-- three numbers
+abbrev pub read_triple : List (List ℕ) → Result Triple TextCause
+read_triple (a ∷ b ∷ c ∷ []) =
+    both (λ (make : ℕ → Triple) (z : ℕ). make z) (both (λ (x y z : ℕ). record { ns = x; start = y; len = z }) (read_number a) (read_number b)) (read_number c)
+read_triple _ = Err cause.Field
+
+abbrev pub nvm_source : Triple → CopySource
+nvm_source t = source.Nvm t.ns t.start t.len
+
+abbrev pub mem_source : Triple → CopySource
+mem_source t = source.Mem t.ns t.start t.len
+
+abbrev pub mem_range : Triple → MemRange
+mem_range t = record { ns = t.ns; at = t.start; len = t.len }
 
 abbrev pub read_source : List ℕ → Result CopySource TextCause
 read_source [] = Err cause.Field
 read_source (kind ∷ text) =
-    if kind == 110 then read_triple (λ ns lba count. source.Nvm ns lba count) (parts_between 58 text)
-    else if kind == 109 then read_triple (λ ns at len. source.Mem ns at len) (parts_between 58 text) else Err cause.Field
+    if kind == 110 then changed nvm_source (read_triple (parts_between 58 text))
+    else if kind == 109 then changed mem_source (read_triple (parts_between 58 text)) else Err cause.Field
 
 abbrev pub read_range : List ℕ → Result MemRange TextCause
-read_range text = read_triple (λ ns at len. record { ns = ns; at = at; len = len }) (parts_between 58 text)
+read_range text = changed mem_range (read_triple (parts_between 58 text))
 
 abbrev pub read_each : {A : Type 0} → (List ℕ → Result A TextCause) → List (List ℕ) → Result (List A) TextCause
 read_each read [] = Ok []
-read_each read (text ∷ texts) = both (λ x xs. x ∷ xs) (read text) (read_each read texts)
+read_each read (text ∷ texts) = both (λ xs ys. xs ++ ys) (changed (λ x. x ∷ []) (read text)) (read_each read texts)
 
 -- what stands behind a name, read; or that the name is not there
 abbrev pub read_behind : {A : Type 0} → (List ℕ → Result A TextCause) → Option (List ℕ) → Result A TextCause
 read_behind read None = Err cause.Field
 read_behind read (Some text) = read text
 
--- this very word
-abbrev pub read_word : List ℕ → List ℕ → Result Bool TextCause
-read_word word text = if bytes_eq text word then Ok true else Err cause.Field
+-- what a field says by its text
+abbrev pub read_field : Field → List ℕ → Result (List Value) TextCause
+read_field (Word word) text = if bytes_eq text word then Ok [] else Err cause.Field
+read_field (Number name) text = changed (λ n. Count n ∷ []) (read_behind read_number (after_name name text))
+read_field (Hex name) text = changed (λ bytes. Data bytes ∷ []) (read_behind (λ t. or_cause cause.Hex (hex_of t)) (after_name name text))
+read_field (Sources name) text = changed (λ sources. Copied sources ∷ []) (read_behind (λ t. read_each read_source (parts_between 44 t)) (after_name name text))
+read_field (Ranges name) text = changed (λ ranges. Covered ranges ∷ []) (read_behind (λ t. read_each read_range (parts_between 44 t)) (after_name name text))
 
--- the fields of a line, read one by one; all of them have to be there and no other
-abbrev pub read_fields : List Field → List (List ℕ) → Result Values TextCause
-read_fields [] [] = Ok nothing
+-- what the fields of a line say; all of them have to be there and no other
+abbrev pub read_fields : List Field → List (List ℕ) → Result (List Value) TextCause
+read_fields [] [] = Ok []
 read_fields [] (text ∷ texts) = Err cause.Field
 read_fields (field ∷ fields) [] = Err cause.Field
-read_fields (Word word ∷ fields) (text ∷ texts) = both (λ _ v. v) (read_word word text) (read_fields fields texts)
-read_fields (Number name ∷ fields) (text ∷ texts) =
-    both (λ n (v : Values). record v { numbers = n ∷ v.numbers }) (read_behind read_number (after_name name text)) (read_fields fields texts)
-read_fields (Hex name ∷ fields) (text ∷ texts) =
-    both (λ bytes (v : Values). record v { bytes = bytes }) (read_behind (λ t. or_cause cause.Hex (hex_of t)) (after_name name text)) (read_fields fields texts)
-read_fields (Sources name ∷ fields) (text ∷ texts) =
-    both (λ sources (v : Values). record v { sources = sources }) (read_behind (λ t. read_each read_source (parts_between 44 t)) (after_name name text)) (read_fields fields texts)
-read_fields (Ranges name ∷ fields) (text ∷ texts) =
-    both (λ ranges (v : Values). record v { ranges = ranges }) (read_behind (λ t. read_each read_range (parts_between 44 t)) (after_name name text)) (read_fields fields texts)
+read_fields (field ∷ fields) (text ∷ texts) = both (λ xs ys. xs ++ ys) (read_field field text) (read_fields fields texts)

@@ -1,5 +1,5 @@
 -- The lines of a script: the kinds of line and the one table of their fields. This project's own.
-use Rattle.std.specs.Prelude.{ℕ, List, [], ◌∷◌, Option, Result, Ok, Err, if◌then◌else◌, codes, find, option_map}
+use Rattle.std.specs.Prelude.{ℕ, List, [], ◌∷◌, ◌++◌, map, Option, Result, Ok, Err, if◌then◌else◌, codes, find, option_map}
 use Rattle.std.specs.Str.{bytes_eq}
 use Rattle.cp_base.specs.declared.commands.Command.{Command}
 use Rattle.cp_base.specs.declared.commands.Command.TheVariants as command
@@ -7,24 +7,14 @@ use Rattle.script_cmds.specs.declared.fault.TextCause.{TextCause}
 use Rattle.script_cmds.specs.declared.fault.TextCause.TheVariants as cause
 use Rattle.script_cmds.specs.declared.word.CommandWord.{CommandWord}
 use Rattle.script_cmds.specs.declared.word.CommandWord.TheVariants as word
-use Rattle.script_cmds.specs.Field.{Field, Word, Number, Hex, Sources, Ranges, Values, nothing, or_cause, field_texts, joined_by}
-
--- the kinds of line
-pub data Kind : Type 0 where
-  Header : Kind
-  Nvm : Kind
-  Mem : Kind
-  Phase : Kind
-  Host : Kind
-  Send : (word : CommandWord) → Kind
-  Take : Kind
-  ShowNvm : Kind
-  ShowMem : Kind
+use Rattle.script_cmds.specs.declared.kind.LineKind.{LineKind}
+use Rattle.script_cmds.specs.declared.kind.LineKind.TheVariants.{Header, Nvm, Mem, Phase, Host, Send, Take, ShowNvm, ShowMem}
+use Rattle.script_cmds.specs.Field.{Field, Word, Number, Hex, Sources, Ranges, Value, Count, Data, Copied, Covered, or_cause, field_texts, joined_by}
 
 -- a line: its kind and what its fields say
 pub record Line : Type 0 where
-  pub kind : Kind
-  pub values : Values
+  pub kind : LineKind
+  pub values : List Value
 
 -- the word of a command
 abbrev pub word_text : CommandWord → List ℕ
@@ -69,21 +59,30 @@ command_fields word.Deactivate = Number (codes "slot=") ∷ []
 command_fields word.Execute =
     Number (codes "slot=") ∷ Number (codes "set=") ∷ Number (codes "p1=") ∷ Number (codes "p2=") ∷ Number (codes "budget=") ∷ []
 
--- the fields of a line, its words among them
-abbrev pub fields_of : Kind → List Field
-fields_of Header = Word (codes "nvmecp") ∷ Word (codes "1") ∷ Number (codes "block=") ∷ Number (codes "depth=") ∷ Number (codes "budget=") ∷ []
-fields_of Nvm = Word (codes "nvm") ∷ Number [] ∷ Number (codes "blocks=") ∷ []
-fields_of Mem = Word (codes "mem") ∷ Number [] ∷ Number (codes "bytes=") ∷ []
-fields_of Phase = Word (codes "phase") ∷ []
-fields_of Host = Word (codes "host") ∷ Number [] ∷ []
-fields_of (Send word) = Word (codes "send") ∷ Number [] ∷ Word (word_text word) ∷ command_fields word
-fields_of Take = Word (codes "take") ∷ Number [] ∷ []
-fields_of ShowNvm = Word (codes "show") ∷ Word (codes "nvm") ∷ Number [] ∷ Number (codes "at=") ∷ Number (codes "len=") ∷ []
-fields_of ShowMem = Word (codes "show") ∷ Word (codes "mem") ∷ Number [] ∷ Number (codes "at=") ∷ Number (codes "len=") ∷ []
+-- the fields of a line, its words among them and those of a command left out
+abbrev pub line_fields : LineKind → List Field
+line_fields Header = Word (codes "nvmecp") ∷ Word (codes "1") ∷ Number (codes "block=") ∷ Number (codes "depth=") ∷ Number (codes "budget=") ∷ []
+line_fields Nvm = Word (codes "nvm") ∷ Number [] ∷ Number (codes "blocks=") ∷ []
+line_fields Mem = Word (codes "mem") ∷ Number [] ∷ Number (codes "bytes=") ∷ []
+line_fields Phase = Word (codes "phase") ∷ []
+line_fields Host = Word (codes "host") ∷ Number [] ∷ []
+line_fields (Send word) = Word (codes "send") ∷ Number [] ∷ []
+line_fields Take = Word (codes "take") ∷ Number [] ∷ []
+line_fields ShowNvm = Word (codes "show") ∷ Word (codes "nvm") ∷ Number [] ∷ Number (codes "at=") ∷ Number (codes "len=") ∷ []
+line_fields ShowMem = Word (codes "show") ∷ Word (codes "mem") ∷ Number [] ∷ Number (codes "at=") ∷ Number (codes "len=") ∷ []
+
+-- the word of a command and its fields, which stand behind the fields of a send line
+abbrev pub more_fields : LineKind → List Field
+more_fields (Send word) = Word (word_text word) ∷ command_fields word
+more_fields _ = []
+
+-- all fields of a line
+abbrev pub fields_of : LineKind → List Field
+fields_of kind = line_fields kind ++ more_fields kind
 
 -- the one text of a line, without its newline: its fields with one space between two
 abbrev pub line_text : Line → List ℕ
-line_text line = joined_by 32 (field_texts (fields_of line.kind) line.values.numbers line.values)
+line_text line = joined_by 32 (field_texts (fields_of line.kind) line.values)
 
 -- the command of a word
 abbrev pub command_word : List ℕ → Option CommandWord
@@ -91,17 +90,17 @@ command_word text = find (λ word. bytes_eq text (word_text word)) all_words
 
 -- the kind of a send line by the fields after its first: the third field of the line has to be a
 -- command's word
-abbrev pub send_kind : List (List ℕ) → Result Kind TextCause
+abbrev pub send_kind : List (List ℕ) → Result LineKind TextCause
 send_kind (cid ∷ text ∷ more) = or_cause cause.Word (option_map (λ word. Send word) (command_word text))
 send_kind _ = Err cause.Field
 
 -- the kind of a show line by the fields after its first
-abbrev pub show_kind : List (List ℕ) → Result Kind TextCause
+abbrev pub show_kind : List (List ℕ) → Result LineKind TextCause
 show_kind [] = Err cause.Field
 show_kind (text ∷ more) = if bytes_eq text (codes "nvm") then Ok ShowNvm else if bytes_eq text (codes "mem") then Ok ShowMem else Err cause.Word
 
 -- the kind of a line by its fields, or that one of its words is none
-abbrev pub kind_of : List (List ℕ) → Result Kind TextCause
+abbrev pub kind_of : List (List ℕ) → Result LineKind TextCause
 kind_of [] = Err cause.Word
 kind_of (text ∷ more) =
     if bytes_eq text (codes "nvmecp") then Ok Header
@@ -132,28 +131,24 @@ word_of (command.Activate slot) = word.Activate
 word_of (command.Deactivate slot) = word.Deactivate
 word_of (command.Execute slot set p1 p2 budget) = word.Execute
 
--- numbers alone
-abbrev pub numbers_alone : List ℕ → Values
-numbers_alone numbers = record nothing { numbers = numbers }
-
--- numbers and data
-abbrev pub numbers_and_data : List ℕ → List ℕ → Values
-numbers_and_data numbers bytes = record nothing { numbers = numbers; bytes = bytes }
+-- numbers as what fields say
+abbrev pub counts : List ℕ → List Value
+counts numbers = map (λ n. Count n) numbers
 
 -- what the fields of a send line say
-abbrev pub send_values : ℕ → Command → Values
-send_values cid (command.NvmRead ns lba count) = numbers_alone (cid ∷ ns ∷ lba ∷ count ∷ [])
-send_values cid (command.NvmWrite ns lba bytes) = numbers_and_data (cid ∷ ns ∷ lba ∷ []) bytes.items
-send_values cid (command.NvmZeroes ns lba count) = numbers_alone (cid ∷ ns ∷ lba ∷ count ∷ [])
-send_values cid (command.NvmCopy ns lba from) = record nothing { numbers = cid ∷ ns ∷ lba ∷ []; sources = from }
-send_values cid (command.MemRead ns at len) = numbers_alone (cid ∷ ns ∷ at ∷ len ∷ [])
-send_values cid (command.MemWrite ns at bytes) = numbers_and_data (cid ∷ ns ∷ at ∷ []) bytes.items
-send_values cid (command.MemFill ns at len value) = numbers_alone (cid ∷ ns ∷ at ∷ len ∷ value ∷ [])
-send_values cid (command.MemCopy ns at from) = record nothing { numbers = cid ∷ ns ∷ at ∷ []; sources = from }
-send_values cid (command.SetCreate ranges) = record nothing { numbers = cid ∷ []; ranges = ranges }
-send_values cid (command.SetDelete set) = numbers_alone (cid ∷ set ∷ [])
-send_values cid (command.Load slot size at bytes) = numbers_and_data (cid ∷ slot ∷ size ∷ at ∷ []) bytes.items
-send_values cid (command.Unload slot) = numbers_alone (cid ∷ slot ∷ [])
-send_values cid (command.Activate slot) = numbers_alone (cid ∷ slot ∷ [])
-send_values cid (command.Deactivate slot) = numbers_alone (cid ∷ slot ∷ [])
-send_values cid (command.Execute slot set p1 p2 budget) = numbers_alone (cid ∷ slot ∷ set ∷ p1 ∷ p2 ∷ budget ∷ [])
+abbrev pub send_values : ℕ → Command → List Value
+send_values cid (command.NvmRead ns lba count) = counts (cid ∷ ns ∷ lba ∷ count ∷ [])
+send_values cid (command.NvmWrite ns lba bytes) = counts (cid ∷ ns ∷ lba ∷ []) ++ Data bytes.items ∷ []
+send_values cid (command.NvmZeroes ns lba count) = counts (cid ∷ ns ∷ lba ∷ count ∷ [])
+send_values cid (command.NvmCopy ns lba from) = counts (cid ∷ ns ∷ lba ∷ []) ++ Copied from ∷ []
+send_values cid (command.MemRead ns at len) = counts (cid ∷ ns ∷ at ∷ len ∷ [])
+send_values cid (command.MemWrite ns at bytes) = counts (cid ∷ ns ∷ at ∷ []) ++ Data bytes.items ∷ []
+send_values cid (command.MemFill ns at len value) = counts (cid ∷ ns ∷ at ∷ len ∷ value ∷ [])
+send_values cid (command.MemCopy ns at from) = counts (cid ∷ ns ∷ at ∷ []) ++ Copied from ∷ []
+send_values cid (command.SetCreate ranges) = counts (cid ∷ []) ++ Covered ranges ∷ []
+send_values cid (command.SetDelete set) = counts (cid ∷ set ∷ [])
+send_values cid (command.Load slot size at bytes) = counts (cid ∷ slot ∷ size ∷ at ∷ []) ++ Data bytes.items ∷ []
+send_values cid (command.Unload slot) = counts (cid ∷ slot ∷ [])
+send_values cid (command.Activate slot) = counts (cid ∷ slot ∷ [])
+send_values cid (command.Deactivate slot) = counts (cid ∷ slot ∷ [])
+send_values cid (command.Execute slot set p1 p2 budget) = counts (cid ∷ slot ∷ set ∷ p1 ∷ p2 ∷ budget ∷ [])

@@ -1,6 +1,6 @@
 -- What a reader of a script has to know of the lines so far: which line may follow, and how much has
 -- been used of each limit. This project's own.
-use Rattle.std.specs.Prelude.{ℕ, ◌+◌, ◌*◌, ◌==◌, nat_lt, nat_le, Bool, true, false, not, ◌&&◌, ◌||◌, length, sum, unwrap_or, slice_index}
+use Rattle.std.specs.Prelude.{ℕ, ◌+◌, ◌*◌, ◌==◌, nat_lt, nat_le, Bool, true, false, not, ◌&&◌, ◌||◌, length, sum, unwrap_or, slice_get, List, [], Option, Some}
 use Rattle.std.specs.List.{list_any}
 use Rattle.cp_base.specs.Configuration.{Configuration, bare, size_of, with_size}
 use Rattle.cp_base.specs.declared.region.SpaceId.{SpaceId}
@@ -10,34 +10,41 @@ use Rattle.cp_base.specs.declared.lists.CopySource.TheVariants as source
 use Rattle.cp_base.specs.declared.lists.MemRange.{MemRange}
 use Rattle.script_cmds.specs.declared.word.CommandWord.{CommandWord}
 use Rattle.script_cmds.specs.declared.word.CommandWord.TheVariants as word
-use Rattle.script_cmds.specs.Field.{Values}
-use Rattle.script_cmds.specs.Line.{Kind, Header, Nvm, Mem, Phase, Host, Send, Take, ShowNvm, ShowMem}
-
--- where a script stands after a line
-pub data Stage : Type 0 where
-  AtStart : Stage
-  AfterHeader : Stage
-  AfterNvm : (number : ℕ) → Stage
-  AfterMem : (number : ℕ) → Stage
-  InPhase : Stage
-  InPart : (host : ℕ) → Stage
-  AfterShow : Stage
-
--- the stage, the configuration so far, and how many send, phase and show lines there were
-pub record Progress : Type 0 where
-  pub stage : Stage
-  pub config : Configuration
-  pub sends : ℕ
-  pub phases : ℕ
-  pub shows : ℕ
+use Rattle.script_cmds.specs.declared.kind.LineKind.{LineKind}
+use Rattle.script_cmds.specs.declared.kind.LineKind.TheVariants.{Header, Nvm, Mem, Phase, Host, Send, Take, ShowNvm, ShowMem}
+use Rattle.script_cmds.specs.declared.progress.Stage.{Stage}
+use Rattle.script_cmds.specs.declared.progress.Stage.TheVariants.{AtStart, AfterHeader, AfterNvm, AfterMem, InPhase, InPart, AfterShow}
+use Rattle.script_cmds.specs.declared.progress.Progress.{Progress}
+use Rattle.script_cmds.specs.Field.{Value, Count, Copied, Covered}
 
 -- before the first line
 abbrev pub start : Progress
 start = record { stage = AtStart; config = bare 512 1 1; sends = 0; phases = 0; shows = 0 }
 
--- the number that a line's fields have at a place; 0 where they are fewer
-abbrev pub number_at : Values → ℕ → ℕ
-number_at values place = slice_index values.numbers place
+-- the number that a field says; 0 where there is none
+abbrev pub number_in : Option Value → ℕ
+number_in (Some (Count n)) = n
+number_in _ = 0
+
+-- the number at a place of what a line's fields say
+abbrev pub number_at : List Value → ℕ → ℕ
+number_at values place = number_in (slice_get values place)
+
+-- the sources that a field says
+abbrev pub sources_in : Option Value → List CopySource
+sources_in (Some (Copied sources)) = sources
+sources_in _ = []
+
+abbrev pub sources_at : List Value → ℕ → List CopySource
+sources_at values place = sources_in (slice_get values place)
+
+-- the ranges that a field says
+abbrev pub ranges_in : Option Value → List MemRange
+ranges_in (Some (Covered ranges)) = ranges
+ranges_in _ = []
+
+abbrev pub ranges_at : List Value → ℕ → List MemRange
+ranges_at values place = ranges_in (slice_get values place)
 
 -- whether an nvm line of this number may follow
 abbrev pub nvm_follows : Stage → ℕ → Bool
@@ -71,7 +78,7 @@ is_in_part (InPart host) = true
 is_in_part _ = false
 
 -- whether a line may stand where the script is
-abbrev pub is_in_order : Stage → Kind → Values → Bool
+abbrev pub is_in_order : Stage → LineKind → List Value → Bool
 is_in_order stage Header values = is_start stage
 is_in_order stage Nvm values = nvm_follows stage (number_at values 0)
 is_in_order stage Mem values = mem_follows stage (number_at values 0)
@@ -102,25 +109,37 @@ abbrev pub source_space : CopySource → ℕ
 source_space (source.Nvm ns lba count) = ns
 source_space (source.Mem ns at len) = ns
 
+-- whether these are not too many sources, and their namespaces have numbers of 32 bits
+abbrev pub sources_fit : List CopySource → Bool
+sources_fit sources = nat_le (length sources) 16 && not (list_any (λ (s : CopySource). nat_lt max_32 (source_space s)) sources)
+
+-- whether these are not too many ranges, and their namespaces have numbers of 32 bits
+abbrev pub ranges_fit : List MemRange → Bool
+ranges_fit ranges = nat_le (length ranges) 16 && not (list_any (λ (range : MemRange). nat_lt max_32 range.ns) ranges)
+
 -- whether the numbers of namespaces, slots and sets of a command, a filled value and the length of its
 -- list are within their limits; the first number of a send line is its cid
-abbrev pub command_fits : CommandWord → Values → Bool
-command_fits word.SetCreate values = nat_le (length values.ranges) 16 && not (list_any (λ (range : MemRange). nat_lt max_32 range.ns) values.ranges)
-command_fits word.NvmCopy values = nat_le (number_at values 1) max_32 && (nat_le (length values.sources) 16 && not (list_any (λ (s : CopySource). nat_lt max_32 (source_space s)) values.sources))
-command_fits word.MemCopy values = nat_le (number_at values 1) max_32 && (nat_le (length values.sources) 16 && not (list_any (λ (s : CopySource). nat_lt max_32 (source_space s)) values.sources))
+abbrev pub command_fits : CommandWord → List Value → Bool
+command_fits word.SetCreate values = ranges_fit (ranges_at values 1)
+command_fits word.NvmCopy values = nat_le (number_at values 1) max_32 && sources_fit (sources_at values 3)
+command_fits word.MemCopy values = nat_le (number_at values 1) max_32 && sources_fit (sources_at values 3)
 command_fits word.MemFill values = nat_le (number_at values 1) max_32 && nat_le (number_at values 4) 255
 command_fits word.Execute values = nat_le (number_at values 1) max_32 && nat_le (number_at values 2) max_32
 command_fits word values = nat_le (number_at values 1) max_32
 
 -- whether the shown bytes are 1 to 8,192 inside a namespace
-abbrev pub show_fits : Configuration → SpaceId → ℕ → Values → Bool
-show_fits c space number values =
-    is_within 1 8 number && (is_within 1 8192 (number_at values 2) && nat_le (number_at values 1 + number_at values 2) (unwrap_or (size_of c space) 0))
+abbrev pub show_fits : Configuration → SpaceId → ℕ → ℕ → ℕ → Bool
+show_fits c space number at len =
+    is_within 1 8 number && (is_within 1 8192 len && nat_le (at + len) (unwrap_or (size_of c space) 0))
+
+-- whether a block's size, a depth and a budget are within their limits
+abbrev pub header_fits : ℕ → ℕ → ℕ → Bool
+header_fits block depth budget = ((block == 512) || (block == 4096)) && (is_within 1 256 depth && is_within 1 10000000 budget)
 
 -- whether a line keeps its limits
-abbrev pub is_within_limits : Progress → Kind → Values → Bool
+abbrev pub is_within_limits : Progress → LineKind → List Value → Bool
 is_within_limits p Header values =
-    ((number_at values 0 == 512) || (number_at values 0 == 4096)) && (is_within 1 256 (number_at values 1) && is_within 1 10000000 (number_at values 2))
+    header_fits (number_at values 0) (number_at values 1) (number_at values 2)
 is_within_limits p Nvm values =
     namespace_fits (number_at values 0) (number_at values 1 * p.config.block) (with_size p.config (space.Nvm (number_at values 0)) (number_at values 1))
 is_within_limits p Mem values =
@@ -129,11 +148,11 @@ is_within_limits p Phase values = nat_lt p.phases 1024
 is_within_limits p Host values = is_within 1 16 (number_at values 0)
 is_within_limits p (Send word) values = nat_lt p.sends 16384 && (nat_le (number_at values 0) 65535 && command_fits word values)
 is_within_limits p Take values = nat_le (number_at values 0) 65535
-is_within_limits p ShowNvm values = nat_lt p.shows 1024 && show_fits p.config (space.Nvm (number_at values 0)) (number_at values 0) values
-is_within_limits p ShowMem values = nat_lt p.shows 1024 && show_fits p.config (space.Mem (number_at values 0)) (number_at values 0) values
+is_within_limits p ShowNvm values = nat_lt p.shows 1024 && show_fits p.config (space.Nvm (number_at values 0)) (number_at values 0) (number_at values 1) (number_at values 2)
+is_within_limits p ShowMem values = nat_lt p.shows 1024 && show_fits p.config (space.Mem (number_at values 0)) (number_at values 0) (number_at values 1) (number_at values 2)
 
 -- after one more line
-abbrev pub advanced : Progress → Kind → Values → Progress
+abbrev pub advanced : Progress → LineKind → List Value → Progress
 advanced p Header values = record p { stage = AfterHeader; config = bare (number_at values 0) (number_at values 1) (number_at values 2) }
 advanced p Nvm values = record p { stage = AfterNvm (number_at values 0); config = with_size p.config (space.Nvm (number_at values 0)) (number_at values 1) }
 advanced p Mem values = record p { stage = AfterMem (number_at values 0); config = with_size p.config (space.Mem (number_at values 0)) (number_at values 1) }

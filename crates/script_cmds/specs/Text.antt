@@ -9,15 +9,16 @@ use Rattle.script_cmds.specs.declared.item.HostPart.{HostPart}
 use Rattle.script_cmds.specs.declared.item.Phase.{Phase}
 use Rattle.script_cmds.specs.declared.item.Show.{Show}
 use Rattle.script_cmds.specs.declared.script.Script.{Script}
-use Rattle.script_cmds.specs.Line as line
-use Rattle.script_cmds.specs.Line.{Line, Kind, numbers_alone, send_values, word_of, line_text}
+use Rattle.script_cmds.specs.declared.kind.LineKind.{LineKind}
+use Rattle.script_cmds.specs.declared.kind.LineKind.TheVariants as line
+use Rattle.script_cmds.specs.Line.{Line, counts, send_values, word_of, line_text}
 
 -- a line of numbers
-abbrev pub numbers_line : Kind → List ℕ → Line
-numbers_line kind numbers = record { kind = kind; values = numbers_alone numbers }
+abbrev pub numbers_line : LineKind → List ℕ → Line
+numbers_line kind numbers = record { kind = kind; values = counts numbers }
 
 -- a line for each size that is not 0, the first of them under this number
-abbrev pub size_lines : Kind → ℕ → List ℕ → List Line
+abbrev pub size_lines : LineKind → ℕ → List ℕ → List Line
 size_lines kind number [] = []
 size_lines kind number (size ∷ sizes) =
     if size == 0 then size_lines kind (number + 1) sizes else numbers_line kind (number ∷ size ∷ []) ∷ size_lines kind (number + 1) sizes

@@ -1,6 +1,6 @@
 // Worked examples of the definitions. The function does nothing: what it ensures is what is proved.
 ghost use Rattle.std.specs.Prelude.{◌≡◌, ◌++◌, ◌∷◌, [], Some, None, codes};
-ghost use Rattle.script_cmds.specs.Fault.{Fault, first_fault, fault_at};
+ghost use Rattle.script_cmds.specs.Fault.{first_fault, fault_at};
 ghost use Rattle.script_cmds.specs.declared.fault.TextCause.TheVariants as cause;
 
 /// Texts and their first faults.
