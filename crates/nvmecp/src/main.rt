@@ -2,6 +2,7 @@
 #![tactic(auto)]
 
 mod carrying;
+mod run;
 mod single;
 mod words;
 
