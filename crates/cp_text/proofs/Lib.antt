@@ -1,0 +1,4 @@
+pub mod Choices
+pub mod HexTexts
+pub mod NumberTexts
+pub mod SignedTexts

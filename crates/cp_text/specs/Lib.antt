@@ -1,0 +1,3 @@
+pub mod HexText
+pub mod Number
+pub mod Signed
