@@ -1,0 +1,10 @@
+pub mod Fault
+pub mod Field
+pub mod Line
+pub mod Progress
+pub mod Text
+pub mod Reading
+pub mod Drafts
+pub mod Ends
+pub mod Kept
+pub mod Said

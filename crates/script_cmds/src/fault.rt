@@ -1,4 +1,11 @@
 // Why a text is no script.
+ghost use Rattle.std.specs.Prelude.{◌≡◌};
+ghost use Rattle.script_cmds.specs.declared.fault.LineEnd.TheVariants as variant;
+ghost use Rattle.script_cmds.specs.declared.fault.ParseEnd.TheVariants as told;
+ghost use Rattle.script_cmds.specs.Field.{first_of_two};
+
+use cp_base::NoMemory;
+use std::alloc::{AllocError, AllocFailed};
 
 /// What is wrong with a line. Where several hold, the first of this order is told.
 #[derive(Clone, Copy, Debug, PartialEq, Eq)]
@@ -29,4 +36,56 @@ pub struct ScriptFault {
 pub enum ParseEnd {
     Fault(ScriptFault),
     NoMemory,
+}
+
+/// Why there is nothing of a line: a cause, or memory was wanting.
+#[derive(Clone, Copy, Debug, PartialEq, Eq)]
+pub enum LineEnd {
+    Fault(TextCause),
+    NoMemory,
+}
+
+impl From<NoMemory> for LineEnd {
+    ghost from_gives = { λ _ e. e ≡ variant.NoMemory };
+
+    fn from(_: NoMemory) -> LineEnd {
+        LineEnd::NoMemory
+    }
+}
+
+impl From<AllocError> for LineEnd {
+    ghost from_gives = { λ _ e. e ≡ variant.NoMemory };
+
+    fn from(_: AllocError) -> LineEnd {
+        LineEnd::NoMemory
+    }
+}
+
+impl<T: Drop> From<AllocFailed<T>> for LineEnd {
+    ghost from_gives = { λ _ e. e ≡ variant.NoMemory };
+
+    fn from(_: AllocFailed<T>) -> LineEnd {
+        LineEnd::NoMemory
+    }
+}
+
+impl TextCause {
+    /// The first of two causes in the order in which they are told.
+    pub fn first_of_two(self, other: TextCause) -> TextCause
+        ensures { result ≡ first_of_two self other }
+    {
+        if self as u8 <= other as u8 {
+            self
+        } else {
+            other
+        }
+    }
+}
+
+impl From<NoMemory> for ParseEnd {
+    ghost from_gives = { λ _ e. e ≡ told.NoMemory };
+
+    fn from(_: NoMemory) -> ParseEnd {
+        ParseEnd::NoMemory
+    }
 }

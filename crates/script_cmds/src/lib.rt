@@ -1,10 +1,28 @@
 //! Scripts of hosts: what a script says, and its one text, read and printed.
 #![tactic(auto)]
 
+mod draft;
+mod examples;
 mod fault;
+mod field;
 mod item;
+mod kind;
+mod limits;
+mod line;
+mod lists;
+mod parsing;
+mod parts;
+mod progress;
+mod reading;
 mod script;
 
+mod word;
+
+pub use examples::faults_by_example;
 pub use fault::{ParseEnd, ScriptFault, TextCause};
 pub use item::{HostPart, Item, Phase, Show};
+pub use kind::LineKind;
+pub use parsing::parse;
+pub use progress::{Progress, Stage};
 pub use script::Script;
+pub use word::CommandWord;

@@ -1,0 +1,11 @@
+pub mod AnyMaps
+pub mod AtPlaces
+pub mod CutTexts
+pub mod DraftLines
+pub mod Keeping
+pub mod Outcomes
+pub mod Puts
+pub mod Shapes
+pub mod Spelled
+pub mod Triples
+pub mod WholeTexts

@@ -1,0 +1,11 @@
+use Rattle.std.proofs.Common.{◌≡◌, map, option_map}
+use Rattle.script_cmds.specs.Field.{mem_range, parts_between, read_each, read_range}
+use Rattle.script_cmds.specs.Reading.{parts_of, followed}
+use Rattle.script_cmds.proofs.Triples.{left}
+use Rattle.script_cmds.proofs.lists.read_ranges.Given as goal
+
+abbrev pub invariant-loop-rest : goal.invariant-loop-rest
+invariant-loop-rest l = followed l.fault (map mem_range l.ranges.items) (read_each read_range (parts_of 44 (option_map (λ text. text.now) l.rest))) ≡ read_each read_range (parts_between 44 l.text)
+
+abbrev pub decreases-loop-rest : goal.decreases-loop-rest
+decreases-loop-rest l = left (option_map (λ text. text.now) l.rest)

@@ -1,0 +1,23 @@
+use Rattle.std.proofs.Common.{◌∙◌, ap, sym}
+use Rattle.std.proofs.lemmas.Result.{err_from_is_err_and}
+use Rattle.script_cmds.specs.Drafts.{are_built_lines, draft_lines}
+use Rattle.script_cmds.specs.Fault.{first_fault}
+use Rattle.script_cmds.specs.Text.{lines_text}
+use Rattle.script_cmds.proofs.WholeTexts.{built_script, count_goes_on, fault_later, text_goes_on, told_here}
+use Rattle.script_cmds.proofs.parsing.parse.Goals as goal
+
+pub returns-in_err-add_line-clause-fault : goal.returns-in_err-add_line-clause-fault
+returns-in_err-add_line-clause-fault c =
+    let p = err_from_is_err_and c.from_residual.result c.from_residual.ensures.1 in
+    rw (p.1, p.2) (told_here c.in_err-add_line.field-0.0 c.lines.number c.lines.draft.progress c.in-Some.line.now c.lines.rest.now c.in-Some.after.now (first_fault c.args.text.now.items) c.in-Some.ensures.parts c.lines.invariant.fault c.in_err-add_line.ensures.fault)
+
+pub lines-preserved : goal.lines-preserved
+lines-preserved c = record {
+  draft = c.in_ok-add_line.ensures.draft;
+  text = text_goes_on (lines_text (draft_lines c.lines.draft)) _ c.in-Some.line.now c.lines.rest.now c.in-Some.after.now c.args.text.now.items c.in_ok-add_line.ensures.text c.in-Some.ensures.whole c.lines.invariant.text;
+  fault = sym (fault_later c.lines.draft.progress c.add_line.new.draft.progress c.lines.number c.in-Some.line.now c.lines.rest.now c.in-Some.after.now c.in-Some.ensures.parts c.in_ok-add_line.ensures.read) ∙ c.lines.invariant.fault;
+  count = count_goes_on c.lines.number c.in-Some.line.now c.lines.rest.now c.in-Some.after.now c.in-Some.ensures.whole c.lines.invariant.count;
+}
+
+pub returns-clause-built : goal.returns-clause-built
+returns-clause-built c = built_script c.in_ok-finish.field-0 (ap are_built_lines c.in_ok-finish.ensures ∙ c.lines.invariant.draft.built)

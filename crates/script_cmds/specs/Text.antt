@@ -1,0 +1,68 @@
+-- The one text of a script. This project's own.
+use Rattle.std.specs.Prelude.{ℕ, ◌+◌, ◌==◌, List, [], ◌∷◌, ◌++◌, if◌then◌else◌}
+use Rattle.cp_base.specs.Configuration.{Configuration}
+use Rattle.cp_base.specs.declared.region.SpaceId.{SpaceId}
+use Rattle.cp_base.specs.declared.region.SpaceId.TheVariants as space
+use Rattle.script_cmds.specs.declared.item.Item.{Item}
+use Rattle.script_cmds.specs.declared.item.Item.TheVariants as item
+use Rattle.script_cmds.specs.declared.item.HostPart.{HostPart}
+use Rattle.script_cmds.specs.declared.item.Phase.{Phase}
+use Rattle.script_cmds.specs.declared.item.Show.{Show}
+use Rattle.script_cmds.specs.declared.script.Script.{Script}
+use Rattle.script_cmds.specs.declared.kind.LineKind.{LineKind}
+use Rattle.script_cmds.specs.declared.kind.LineKind.TheVariants as line
+use Rattle.script_cmds.specs.Line.{Line, counts, send_values, word_of, line_text}
+
+-- a line of numbers
+abbrev pub numbers_line : LineKind → List ℕ → Line
+numbers_line kind numbers = record { kind = kind; values = counts numbers }
+
+-- a line for each size that is not 0, the first of them under this number
+abbrev pub size_lines : LineKind → ℕ → List ℕ → List Line
+size_lines kind number [] = []
+size_lines kind number (size ∷ sizes) =
+    if size == 0 then size_lines kind (number + 1) sizes else numbers_line kind (number ∷ size ∷ []) ∷ size_lines kind (number + 1) sizes
+
+-- the header, and the lines of the namespaces in order of their numbers, NVM before memory
+abbrev pub configuration_lines : Configuration → List Line
+configuration_lines c = numbers_line line.Header (c.block ∷ c.depth ∷ c.budget ∷ []) ∷ size_lines line.Nvm 1 c.nvm ++ size_lines line.Mem 1 c.mem
+
+abbrev pub item_line : Item → Line
+item_line (item.Send cid command) = record { kind = line.Send (word_of command.value); values = send_values cid command.value }
+item_line (item.Take cid) = numbers_line line.Take (cid ∷ [])
+
+abbrev pub item_lines : List Item → List Line
+item_lines [] = []
+item_lines (item ∷ items) = item_line item ∷ item_lines items
+
+abbrev pub part_lines : List HostPart → List Line
+part_lines [] = []
+part_lines (part ∷ parts) = numbers_line line.Host (part.host ∷ []) ∷ item_lines part.items ++ part_lines parts
+
+abbrev pub phase_lines : List Phase → List Line
+phase_lines [] = []
+phase_lines (phase ∷ phases) = numbers_line line.Phase [] ∷ part_lines phase.hosts ++ phase_lines phases
+
+abbrev pub region_line : SpaceId → ℕ → ℕ → Line
+region_line (space.Nvm n) start len = numbers_line line.ShowNvm (n ∷ start ∷ len ∷ [])
+region_line (space.Mem n) start len = numbers_line line.ShowMem (n ∷ start ∷ len ∷ [])
+
+abbrev pub show_line : Show → Line
+show_line show = region_line show.range.space show.range.start show.range.len
+
+abbrev pub show_lines : List Show → List Line
+show_lines [] = []
+show_lines (show ∷ shows) = show_line show ∷ show_lines shows
+
+-- the lines of a script
+abbrev pub lines_of : Script → List Line
+lines_of script = configuration_lines script.config ++ phase_lines script.phases ++ show_lines script.shows
+
+-- lines, each ended by a newline
+abbrev pub lines_text : List Line → List ℕ
+lines_text [] = []
+lines_text (line ∷ lines) = line_text line ++ 10 ∷ lines_text lines
+
+-- the one text of a script
+abbrev pub script_text : Script → List ℕ
+script_text script = lines_text (lines_of script)
