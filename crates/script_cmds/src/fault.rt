@@ -6,21 +6,28 @@ ghost use Rattle.script_cmds.specs.Field.{first_of_two};
 
 use cp_base::NoMemory;
 use std::alloc::{AllocError, AllocFailed};
+use thiserror::Error;
 
 /// What is wrong with a line. Where several hold, the first of this order is told.
-#[derive(Clone, Copy, Debug, PartialEq, Eq)]
+#[derive(Clone, Copy, Debug, PartialEq, Eq, Error)]
 pub enum TextCause {
     /// A word that begins no line, command or show, or a line that is not ended.
+    #[error("a word is none of those that may stand there, or the line is not ended")]
     Word,
     /// Fields are missing or too many, or one has not the form of its kind.
+    #[error("a field is missing, is too many or has another form")]
     Field,
     /// What stands in the place of a number is none.
+    #[error("a number is none")]
     Number,
     /// What stands in the place of data is none.
+    #[error("data is none")]
     Hex,
     /// The line stands in the wrong place.
+    #[error("the line stands in the wrong place")]
     Order,
     /// A value is outside its limit.
+    #[error("a value is outside its limit")]
     Limit,
 }
 
@@ -32,9 +39,11 @@ pub struct ScriptFault {
 }
 
 /// Why there is no script: the text is none, or memory was wanting.
-#[derive(Clone, Copy, Debug, PartialEq, Eq)]
+#[derive(Clone, Copy, Debug, PartialEq, Eq, Error)]
 pub enum ParseEnd {
+    #[error("line {}: {}", .0.line, .0.cause)]
     Fault(ScriptFault),
+    #[error("memory is wanting")]
     NoMemory,
 }
 

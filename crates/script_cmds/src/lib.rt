@@ -15,7 +15,6 @@ mod parts;
 mod progress;
 mod reading;
 mod script;
-
 mod word;
 
 pub use examples::faults_by_example;
@@ -26,3 +25,6 @@ pub use parsing::parse;
 pub use progress::{Progress, Stage};
 pub use script::Script;
 pub use word::CommandWord;
+
+#[cfg(test)]
+mod tests;
