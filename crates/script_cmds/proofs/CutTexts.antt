@@ -78,9 +78,9 @@ is_some_part mark (b ∷ bs) =
 
 cases_eq : (a b : ℕ) → ((eqb a b ≡ true) × (a ≡ b)) ⊎ (eqb a b ≡ false)
 cases_eq a b = elim (eqb a b) as (λ t. (eqb a b ≡ t) → ((eqb a b ≡ true) × (a ≡ b)) ⊎ (eqb a b ≡ false)) [
-      | true ↦ λ e. inl (e, eqb-true a b e)
-      | false ↦ λ e. inr e
-    ] refl
+  | true ↦ λ e. inl (e, eqb-true a b e)
+  | false ↦ λ e. inr e
+] refl
 
 pub joined_again : (mark : ℕ) (text : List ℕ) → joined_by mark (parts_between mark text) ≡ text
 joined_again mark [] = refl

@@ -70,7 +70,7 @@ fits_means n size joined e =
 pub fits_is : (n size : ℕ) (joined : Configuration) → 1 ≤ n → n ≤ 8 → 1 ≤ size → size ≤ 16777216 → total_bytes joined ≤ 67108864 → namespace_fits n size joined ≡ true
 fits_is n size joined a b c d e =
     and_true (is_within 1 8 n) (is_within 1 16777216 size && leb (total_bytes joined) 67108864) (within_is 1 8 n a b)
-        (and_true (is_within 1 16777216 size) (leb (total_bytes joined) 67108864) (within_is 1 16777216 size c d) (le-leb _ _ e))
+    (and_true (is_within 1 16777216 size) (leb (total_bytes joined) 67108864) (within_is 1 16777216 size c d) (le-leb _ _ e))
 
 pub misfit : (n size : ℕ) (joined : Configuration) → ((size ≡ 0) ⊎ (8 < n) ⊎ (16777216 < size)) → namespace_fits n size joined ≡ false
 misfit n size joined h =
@@ -104,17 +104,17 @@ pub with_mem_is : (c : Configuration) (n size : ℕ) (r : Option Configuration) 
     → r ≡ cond (namespace_fits n size (with_size c (space.Mem n) size)) (Some (with_size c (space.Mem n) size)) None
 with_mem_is c n size r l some found value =
     joined_is (namespace_fits n size (with_size c (space.Mem n) size)) (HasNumber (space.Mem n) × IsWithinLimits (with_size c (space.Mem n) size)) (with_size c (space.Mem n) size) r
-        (λ e. let f = fits_means n size (with_size c (space.Mem n) size) e in ((f.low, f.high), mem_keeps c n size l f.low f.high f.small f.total))
-        (λ p. fits_is n size (with_size c (space.Mem n) size) p.0.0 p.0.1 some (mem_was_kept c n size l p.0.0 p.0.1 p.1) p.1.total)
-        found value
+    (λ e. let f = fits_means n size (with_size c (space.Mem n) size) e in ((f.low, f.high), mem_keeps c n size l f.low f.high f.small f.total))
+    (λ p. fits_is n size (with_size c (space.Mem n) size) p.0.0 p.0.1 some (mem_was_kept c n size l p.0.0 p.0.1 p.1) p.1.total)
+    found value
 
 pub with_nvm_is : (c : Configuration) (n size : ℕ) (r : Option Configuration) → IsWithinLimits c → 1 ≤ size * c.block → (IsSome r ↔ (HasNumber (space.Nvm n) × IsWithinLimits (with_size c (space.Nvm n) size))) → IfSome r (λ x. x ≡ with_size c (space.Nvm n) size)
     → r ≡ cond (namespace_fits n (size * c.block) (with_size c (space.Nvm n) size)) (Some (with_size c (space.Nvm n) size)) None
 with_nvm_is c n size r l some found value =
     joined_is (namespace_fits n (size * c.block) (with_size c (space.Nvm n) size)) (HasNumber (space.Nvm n) × IsWithinLimits (with_size c (space.Nvm n) size)) (with_size c (space.Nvm n) size) r
-        (λ e. let f = fits_means n (size * c.block) (with_size c (space.Nvm n) size) e in ((f.low, f.high), nvm_keeps c n size l f.low f.high f.small f.total))
-        (λ p. fits_is n (size * c.block) (with_size c (space.Nvm n) size) p.0.0 p.0.1 some (nvm_was_kept c n size l p.0.0 p.0.1 p.1) p.1.total)
-        found value
+    (λ e. let f = fits_means n (size * c.block) (with_size c (space.Nvm n) size) e in ((f.low, f.high), nvm_keeps c n size l f.low f.high f.small f.total))
+    (λ p. fits_is n (size * c.block) (with_size c (space.Nvm n) size) p.0.0 p.0.1 some (nvm_was_kept c n size l p.0.0 p.0.1 p.1) p.1.total)
+    found value
 
 pub some_blocks : (c : Configuration) (size : ℕ) → IsWithinLimits c → 1 ≤ size → 1 ≤ size * c.block
 some_blocks c size l some = elim l.block [ inl e ↦ rw e (omega arith) | inr e ↦ rw e (omega arith) ]

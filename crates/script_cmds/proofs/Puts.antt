@@ -138,7 +138,7 @@ show_lines_after : (s : Stage) (c : Configuration) (l : Line) (phases phases' : 
     → configuration_lines c ++ phase_lines phases' ++ open_lines AfterShow [] [] ++ show_lines shows' ≡ (header_lines s c ++ phase_lines phases ++ open_lines s hosts items ++ show_lines shows) ++ l ∷ []
 show_lines_after s c l phases phases' hosts items shows shows' o p e =
     shown_then (configuration_lines c) (phase_lines phases) (phase_lines phases') (open_lines s hosts items) (show_lines shows) (show_lines shows') l p e
-      ∙ ap (λ (h : List Line). (((h ++ phase_lines phases) ++ open_lines s hosts items) ++ show_lines shows) ++ l ∷ []) (sym (header_again s c o))
+    ∙ ap (λ (h : List Line). (((h ++ phase_lines phases) ++ open_lines s hosts items) ++ show_lines shows) ++ l ∷ []) (sym (header_again s c o))
 
 three_empty : (x : List Line) → ((x ++ []) ++ []) ++ [] ≡ x
 three_empty x = append-nil ((x ++ []) ++ []) ∙ append-nil (x ++ []) ∙ append-nil x
@@ -207,7 +207,7 @@ same_lines q p P' P H' H I' I S' S a b c d e =
 same_tidy : (q p : Progress) (P' P : List declared.Phase) (H' H : List HostPart) (I' I : List Item) (S' S : List Show) → q ≡ p → P' ≡ P → H' ≡ H → I' ≡ I → S' ≡ S → IsTidy p.stage p.config P H I S → IsTidy q.stage q.config P' H' I' S'
 same_tidy q p P' P H' H I' I S' S a b c d e h =
     subst (λ (x : Progress). IsTidy x.stage x.config P' H' I' S') (sym a) (subst (λ (x : List declared.Phase). IsTidy p.stage p.config x H' I' S') (sym b) (subst (λ (x : List HostPart). IsTidy p.stage p.config P x I' S') (sym c)
-      (subst (λ (x : List Item). IsTidy p.stage p.config P H x S') (sym d) (subst (λ (x : List Show). IsTidy p.stage p.config P H I x) (sym e) h))))
+    (subst (λ (x : List Item). IsTidy p.stage p.config P H x S') (sym d) (subst (λ (x : List Show). IsTidy p.stage p.config P H I x) (sym e) h))))
 
 pub adds_phase : (d d' : Draft) (vs : List Value) (after : Progress) → IsDraft d → judged d.progress (record { kind = line.Phase; values = vs }) ≡ Ok after → IsWithinLimits after.config → IsShaped (fields_of line.Phase) vs
     → d'.progress ≡ after → phase_lines d'.phases.items ≡ phase_lines d.phases.items ++ open_lines d.progress.stage d.hosts.items d.items.items → d'.hosts.items ≡ [] → d'.items.items ≡ [] → d'.shows ≡ d.shows
@@ -237,11 +237,11 @@ adds_item d d' l after h j lim b o st co pr it ho ph sh =
     let k = item_lines_after d.progress.stage d.progress.config l d.phases.items d.hosts.items d.items.items d'.items.items d.shows.items h.tidy o it in
     let same_stage : after.stage ≡ d.progress.stage = st in
     let moved : lines_so_far after d.phases.items d.hosts.items d'.items.items d.shows.items ≡ lines_so_far d.progress d.phases.items d.hosts.items d'.items.items d.shows.items =
-      ap (λ (x : Stage). header_lines x after.config ++ phase_lines d.phases.items ++ open_lines x d.hosts.items d'.items.items ++ show_lines d.shows.items) st ∙ ap (λ (x : Configuration). header_lines d.progress.stage x ++ phase_lines d.phases.items ++ open_lines d.progress.stage d.hosts.items d'.items.items ++ show_lines d.shows.items) co in
+    ap (λ (x : Stage). header_lines x after.config ++ phase_lines d.phases.items ++ open_lines x d.hosts.items d'.items.items ++ show_lines d.shows.items) st ∙ ap (λ (x : Configuration). header_lines d.progress.stage x ++ phase_lines d.phases.items ++ open_lines d.progress.stage d.hosts.items d'.items.items ++ show_lines d.shows.items) co in
     let tidy : IsTidy after.stage after.config d.phases.items d.hosts.items d'.items.items d.shows.items =
-      subst (λ (x : Stage). IsTidy x after.config d.phases.items d.hosts.items d'.items.items d.shows.items) (sym st) (subst (λ (x : Configuration). IsTidy d.progress.stage x d.phases.items d.hosts.items d'.items.items d.shows.items) (sym co) k.1) in
+    subst (λ (x : Stage). IsTidy x after.config d.phases.items d.hosts.items d'.items.items d.shows.items) (sym st) (subst (λ (x : Configuration). IsTidy d.progress.stage x d.phases.items d.hosts.items d'.items.items d.shows.items) (sym co) k.1) in
     grown d d' l after h j b lim pr (same_lines d'.progress after d'.phases.items d.phases.items d'.hosts.items d.hosts.items d'.items.items d'.items.items d'.shows.items d.shows.items pr (phases_of ph) (hosts_of ho) refl (shows_of sh) ∙ moved ∙ k.0)
-      (same_tidy d'.progress after d'.phases.items d.phases.items d'.hosts.items d.hosts.items d'.items.items d'.items.items d'.shows.items d.shows.items pr (phases_of ph) (hosts_of ho) refl (shows_of sh) tidy)
+    (same_tidy d'.progress after d'.phases.items d.phases.items d'.hosts.items d.hosts.items d'.items.items d'.items.items d'.shows.items d.shows.items pr (phases_of ph) (hosts_of ho) refl (shows_of sh) tidy)
 
 pub adds_send : (d d' : Draft) (w : CommandWord) (vs : List Value) (after : Progress) → IsDraft d → judged d.progress (record { kind = line.Send w; values = vs }) ≡ Ok after → IsWithinLimits after.config → is_built_kind (line.Send w) ≡ true
     → d'.progress ≡ after → item_lines d'.items.items ≡ item_lines d.items.items ++ record { kind = line.Send w; values = vs } ∷ [] → d'.hosts ≡ d.hosts → d'.phases ≡ d.phases → d'.shows ≡ d.shows
@@ -256,7 +256,7 @@ pub adds_take : (d d' : Draft) (vs : List Value) (after : Progress) → IsDraft 
 adds_take d d' vs after h j lim shape pr it ho ph sh =
     let p = passed d.progress (record { kind = line.Take; values = vs }) after j in
     adds_item d d' (record { kind = line.Take; values = vs }) after h j lim refl p.order (ap (λ (q : Progress). q.stage) p.after) (ap (λ (q : Progress). q.config) p.after) pr
-      (with_values (item_lines d'.items.items) (item_lines d.items.items) line.Take vs (counts (number_at vs 0 ∷ [])) it (one_value [] vs shape)) ho ph sh
+    (with_values (item_lines d'.items.items) (item_lines d.items.items) line.Take vs (counts (number_at vs 0 ∷ [])) it (one_value [] vs shape)) ho ph sh
 
 pub adds_show : (d d' : Draft) (vs : List Value) (after : Progress) → IsDraft d → judged d.progress (record { kind = line.ShowMem; values = vs }) ≡ Ok after → IsWithinLimits after.config → IsShaped (fields_of line.ShowMem) vs
     → d'.progress ≡ after → phase_lines d'.phases.items ≡ phase_lines d.phases.items ++ open_lines d.progress.stage d.hosts.items d.items.items → d'.hosts.items ≡ [] → d'.items.items ≡ []

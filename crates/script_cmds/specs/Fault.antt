@@ -49,7 +49,7 @@ line_of text = do
 abbrev pub judged : Progress → Line → Result Progress TextCause
 judged p line =
     if is_in_order p.stage line.kind line.values then
-      if is_within_limits p line.kind line.values then Ok (advanced p line.kind line.values) else Err cause.Limit
+    if is_within_limits p line.kind line.values then Ok (advanced p line.kind line.values) else Err cause.Limit
     else Err cause.Order
 
 -- A line by its text: its kind, its fields, its place and its limits are looked at in this order, and

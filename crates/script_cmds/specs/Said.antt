@@ -6,4 +6,3 @@ use Rattle.script_cmds.specs.Field.{Value, Data}
 abbrev pub bytes_in : Value → List ℕ
 bytes_in (Data bytes) = bytes
 bytes_in _ = []
-

@@ -63,7 +63,13 @@ impl Draft {
     }
 
     // Adds what a line says, behind which there is this.
-    fn put(&mut self, alloc: Global, kind: LineKind, values: Vec<FieldValue>, after: Progress) -> Result<(), NoMemory>
+    fn put(
+        &mut self,
+        alloc: Global,
+        kind: LineKind,
+        values: Vec<FieldValue>,
+        after: Progress,
+    ) -> Result<(), NoMemory>
         requires draft { IsDraft self.old }
         requires after { judged self.old.progress (record { kind = kind; values = map value_view values.items }) ≡ Ok after }
         requires limits { IsWithinLimits after.config }
@@ -194,7 +200,13 @@ impl Draft {
 
     // Adds a command that the open host sends.
     #[tactic(auto, using(crate::proofs::DraftLines::item_one_more))]
-    fn send(&mut self, alloc: Global, word: CommandWord, values: Vec<FieldValue>, after: Progress) -> Result<(), NoMemory>
+    fn send(
+        &mut self,
+        alloc: Global,
+        word: CommandWord,
+        values: Vec<FieldValue>,
+        after: Progress,
+    ) -> Result<(), NoMemory>
         requires built { is_built_word word ≡ true }
         requires shaped { IsShaped (fields_of (line_kind.Send word)) (map value_view values.items) }
         requires fits { command_fits word (map value_view values.items) ≡ true }
@@ -230,7 +242,12 @@ impl Draft {
     }
 
     // Adds bytes of an NVM namespace that are shown.
-    fn show_nvm(&mut self, alloc: Global, values: &[FieldValue], after: Progress) -> Result<(), NoMemory>
+    fn show_nvm(
+        &mut self,
+        alloc: Global,
+        values: &[FieldValue],
+        after: Progress,
+    ) -> Result<(), NoMemory>
         requires number { number_at (map value_view values.now) 0 ≤ 8 }
         requires some { 1 ≤ number_at (map value_view values.now) 2 }
         requires inside { number_at (map value_view values.now) 1 + number_at (map value_view values.now) 2 ≤ 16777216 }
@@ -242,11 +259,22 @@ impl Draft {
         ensures progress { OnOk result (self.new.progress ≡ after) }
     {
         let space = SpaceId::Nvm(number_at(values, 0) as u32);
-        self.show(alloc, space, number_at(values, 1), number_at(values, 2), after)
+        self.show(
+            alloc,
+            space,
+            number_at(values, 1),
+            number_at(values, 2),
+            after,
+        )
     }
 
     // Adds bytes of a memory namespace that are shown.
-    fn show_mem(&mut self, alloc: Global, values: &[FieldValue], after: Progress) -> Result<(), NoMemory>
+    fn show_mem(
+        &mut self,
+        alloc: Global,
+        values: &[FieldValue],
+        after: Progress,
+    ) -> Result<(), NoMemory>
         requires number { number_at (map value_view values.now) 0 ≤ 8 }
         requires some { 1 ≤ number_at (map value_view values.now) 2 }
         requires inside { number_at (map value_view values.now) 1 + number_at (map value_view values.now) 2 ≤ 16777216 }
@@ -258,12 +286,25 @@ impl Draft {
         ensures progress { OnOk result (self.new.progress ≡ after) }
     {
         let space = SpaceId::Mem(number_at(values, 0) as u32);
-        self.show(alloc, space, number_at(values, 1), number_at(values, 2), after)
+        self.show(
+            alloc,
+            space,
+            number_at(values, 1),
+            number_at(values, 2),
+            after,
+        )
     }
 
     // Adds bytes that are shown.
     #[tactic(auto, using(crate::proofs::DraftLines::show_one_more))]
-    fn show(&mut self, alloc: Global, space: SpaceId, start: u64, len: u64, after: Progress) -> Result<(), NoMemory>
+    fn show(
+        &mut self,
+        alloc: Global,
+        space: SpaceId,
+        start: u64,
+        len: u64,
+        after: Progress,
+    ) -> Result<(), NoMemory>
         requires some { 1 ≤ len }
         requires inside { start + len ≤ 16777216 }
         ensures shows { OnOk result (show_lines self.new.shows.items ≡ show_lines self.old.shows.items ++ region_line space start len ∷ []) }

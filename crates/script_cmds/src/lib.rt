@@ -15,7 +15,6 @@ mod parts;
 mod progress;
 mod reading;
 mod script;
-
 mod word;
 
 pub use examples::faults_by_example;

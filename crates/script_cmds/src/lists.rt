@@ -112,7 +112,11 @@ pub fn read_sources(alloc: Global, text: &[u8]) -> Result<Vec<SourceText>, LineE
 }
 
 // Reads one more source, and gives the first cause so far.
-fn take_source(sources: &mut Vec<SourceText>, fault: Option<TextCause>, part: &[u8]) -> Result<Option<TextCause>, NoMemory>
+fn take_source(
+    sources: &mut Vec<SourceText>,
+    fault: Option<TextCause>,
+    part: &[u8],
+) -> Result<Option<TextCause>, NoMemory>
     ensures { IfOk result (λ now. (parts : List (List ℕ))
         → followed now (map source_view sources.new.items) (read_each read_source parts)
         ≡ followed fault (map source_view sources.old.items) (read_each read_source (part.now ∷ parts))) }
@@ -146,7 +150,11 @@ pub fn read_ranges(alloc: Global, text: &[u8]) -> Result<Vec<Triple>, LineEnd>
 }
 
 // Reads one more range, and gives the first cause so far.
-fn take_range(ranges: &mut Vec<Triple>, fault: Option<TextCause>, part: &[u8]) -> Result<Option<TextCause>, NoMemory>
+fn take_range(
+    ranges: &mut Vec<Triple>,
+    fault: Option<TextCause>,
+    part: &[u8],
+) -> Result<Option<TextCause>, NoMemory>
     ensures { IfOk result (λ now. (parts : List (List ℕ))
         → followed now (map mem_range ranges.new.items) (read_each read_range parts)
         ≡ followed fault (map mem_range ranges.old.items) (read_each read_range (part.now ∷ parts))) }
@@ -160,4 +168,3 @@ fn take_range(ranges: &mut Vec<Triple>, fault: Option<TextCause>, part: &[u8]) -
         Err(LineEnd::NoMemory) => Err(NoMemory),
     }
 }
-

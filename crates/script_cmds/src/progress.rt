@@ -14,11 +14,14 @@ use cp_base::Config;
 
 /// The most send, phase and show lines of a script.
 const MAX_SENDS: u32 = 16_384;
+
 const MAX_PHASES: u32 = 1_024;
+
 const MAX_SHOWS: u32 = 1_024;
 
 /// The largest host number and the largest command identifier.
 const MAX_HOST: u64 = 16;
+
 const MAX_CID: u64 = 65_535;
 
 /// Where a script stands after a line.

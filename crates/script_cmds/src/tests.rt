@@ -10,10 +10,15 @@ const FRONT: &str = "nvmecp 1 block=512 depth=16 budget=1000\nmem 1 bytes=64\nph
 // Parses the front and more lines, which are short.
 fn parsed(alloc: Global, front: &str, more: &str) -> Result<Result<Script, ParseEnd>, Fail> {
     let text = format!(in alloc; "{front}{more}")?;
-    let bytes = Bytes::from_slice(alloc, text.as_str().as_bytes())?;
-    if bytes.len() > 1_000 {
+    outcome(alloc, text.as_str().as_bytes())
+}
+
+// Parses a text of less than 2 MB.
+fn outcome(alloc: Global, text: &[u8]) -> Result<Result<Script, ParseEnd>, Fail> {
+    if text.len() > 2_000_000 {
         return Ok(Err(ParseEnd::NoMemory));
     }
+    let bytes = Bytes::from_slice(alloc, text)?;
     Ok(parse(alloc, &bytes))
 }
 
@@ -22,20 +27,80 @@ fn faults(rt: HostRuntime) -> Result<(), Fail> {
     let table = [
         ("", "", 1, TextCause::Order),
         ("", "\n", 1, TextCause::Word),
-        ("", "nvmecp 1 block=513 depth=16 budget=1000\n", 1, TextCause::Limit),
-        ("", "nvmecp 1 block=0512 depth=16 budget=1000\n", 1, TextCause::Number),
-        ("", "nvmecp 2 block=512 depth=16 budget=1000\n", 1, TextCause::Field),
-        ("", "nvmecp 1 block=512 depth=257 budget=1000\n", 1, TextCause::Limit),
-        ("", "nvmecp 1 block=512 depth=1 budget=10000001\n", 1, TextCause::Limit),
+        (
+            "",
+            "nvmecp 1 block=513 depth=16 budget=1000\n",
+            1,
+            TextCause::Limit,
+        ),
+        (
+            "",
+            "nvmecp 1 block=0512 depth=16 budget=1000\n",
+            1,
+            TextCause::Number,
+        ),
+        (
+            "",
+            "nvmecp 2 block=512 depth=16 budget=1000\n",
+            1,
+            TextCause::Field,
+        ),
+        (
+            "",
+            "nvmecp 1 block=512 depth=257 budget=1000\n",
+            1,
+            TextCause::Limit,
+        ),
+        (
+            "",
+            "nvmecp 1 block=512 depth=1 budget=10000001\n",
+            1,
+            TextCause::Limit,
+        ),
         ("", "nvmecp 1 block=0512 depth=16\n", 1, TextCause::Field),
-        ("", "nvmecp 1 block=512 depth=16 budget=1", 1, TextCause::Word),
+        (
+            "",
+            "nvmecp 1 block=512 depth=16 budget=1",
+            1,
+            TextCause::Word,
+        ),
         ("", "mem 1 bytes=64\n", 1, TextCause::Order),
-        (FRONT, "send 1 memwrite ns=1 at=0 data=0A\n", 5, TextCause::Hex),
-        (FRONT, "send 1 memwrite ns=01 at=0 data=0A\n", 5, TextCause::Number),
-        (FRONT, "send 1 memwrite ns=01 at=0 date=0A\n", 5, TextCause::Field),
-        (FRONT, "send 1 memwrote ns=01 at=0 date=0A\n", 5, TextCause::Word),
-        (FRONT, "send 1 nvmread ns=1 lba=0 count=1\n", 5, TextCause::Word),
-        (FRONT, "send  1 memread ns=1 at=0 len=1\n", 5, TextCause::Word),
+        (
+            FRONT,
+            "send 1 memwrite ns=1 at=0 data=0A\n",
+            5,
+            TextCause::Hex,
+        ),
+        (
+            FRONT,
+            "send 1 memwrite ns=01 at=0 data=0A\n",
+            5,
+            TextCause::Number,
+        ),
+        (
+            FRONT,
+            "send 1 memwrite ns=01 at=0 date=0A\n",
+            5,
+            TextCause::Field,
+        ),
+        (
+            FRONT,
+            "send 1 memwrote ns=01 at=0 date=0A\n",
+            5,
+            TextCause::Word,
+        ),
+        (
+            FRONT,
+            "send 1 nvmread ns=1 lba=0 count=1\n",
+            5,
+            TextCause::Word,
+        ),
+        (
+            FRONT,
+            "send  1 memread ns=1 at=0 len=1\n",
+            5,
+            TextCause::Word,
+        ),
         (FRONT, "send 1 \n", 5, TextCause::Word),
         (FRONT, "send 1\n", 5, TextCause::Field),
         (FRONT, "send\n", 5, TextCause::Field),
@@ -54,7 +119,12 @@ fn faults(rt: HostRuntime) -> Result<(), Fail> {
         (FRONT, "show mem 2 at=0 len=1\n", 5, TextCause::Limit),
         (FRONT, "show mem 1 at=0 len=0\n", 5, TextCause::Limit),
         (FRONT, "show mem 1 at=0 len=1\nphase\n", 6, TextCause::Order),
-        (FRONT, "send 1 memread ns=4294967296 at=0 len=1\n", 5, TextCause::Limit),
+        (
+            FRONT,
+            "send 1 memread ns=4294967296 at=0 len=1\n",
+            5,
+            TextCause::Limit,
+        ),
         (FRONT, "take 1\u{0}\n", 5, TextCause::Number),
         (FRONT, "tak\u{e9} 1\n", 5, TextCause::Word),
     ];
@@ -77,6 +147,33 @@ fn scripts(rt: HostRuntime) -> Result<(), Fail> {
     ];
     for text in table {
         assert!(rt; parsed(rt.alloc(), "", text)?.is_ok(), "{text}");
+    }
+    Ok(())
+}
+
+#[test]
+fn counts(rt: HostRuntime) -> Result<(), Fail> {
+    let table: [(&str, u32); 3] = [
+        ("send 1 memread ns=1 at=0 len=1\n", 16_384),
+        ("phase\n", 1_023),
+        ("show mem 1 at=0 len=1\n", 1_024),
+    ];
+    for (line, most) in table {
+        let mut text = Vec::from_slice(rt.alloc(), FRONT.as_bytes())?;
+        for _ in 0..most {
+            text.extend_from_slice(line.as_bytes())?;
+        }
+        assert!(rt; outcome(rt.alloc(), text.as_slice())?.is_ok(), "{line}");
+        text.extend_from_slice(line.as_bytes())?;
+        let fault = match outcome(rt.alloc(), text.as_slice())? {
+            Err(ParseEnd::Fault(fault)) => Some(fault),
+            Ok(_) | Err(ParseEnd::NoMemory) => None,
+        };
+        let wanted = ScriptFault {
+            line: most + 5,
+            cause: TextCause::Limit,
+        };
+        assert_eq!(rt; fault, Some(wanted), "{line}");
     }
     Ok(())
 }

@@ -14,4 +14,4 @@ put-requires-clause-shaped c = (line_says c.args.line.now _ c.in_ok-kind.ensures
 pub returns-clause-text : goal.returns-clause-text
 returns-clause-text c =
     ap lines_text c.in_ok-put.ensures.lines ∙ text_one_more (draft_lines c.args.self.now) _
-      ∙ ap (λ (text : List ℕ). lines_text (draft_lines c.args.self.now) ++ (text ++ 10 ∷ [])) (line_says c.args.line.now _ c.in_ok-kind.ensures).spelled
+    ∙ ap (λ (text : List ℕ). lines_text (draft_lines c.args.self.now) ++ (text ++ 10 ∷ [])) (line_says c.args.line.now _ c.in_ok-kind.ensures).spelled

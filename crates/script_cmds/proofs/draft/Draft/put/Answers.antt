@@ -12,25 +12,25 @@ pub returns-in-Header-clause-draft : goal.returns-in-Header-clause-draft
 returns-in-Header-clause-draft c =
     let j = subst (λ (k : LineKind). judged c.args.self.now.progress (record { kind = k; values = (map value_view c.args.values.items) }) ≡ Ok c.args.after) c.in-Header.is c.requires.after in
     let shape = subst (λ (k : LineKind). IsShaped (fields_of k) (map value_view c.args.values.items)) c.in-Header.is c.requires.shaped in
-    (adds_header c.args.self.now (map value_view c.args.values.items) c.args.after c.requires.draft j c.requires.limits shape ).draft
+    (adds_header c.args.self.now (map value_view c.args.values.items) c.args.after c.requires.draft j c.requires.limits shape).draft
 
 pub returns-in-Header-clause-lines : goal.returns-in-Header-clause-lines
 returns-in-Header-clause-lines c =
     let j = subst (λ (k : LineKind). judged c.args.self.now.progress (record { kind = k; values = (map value_view c.args.values.items) }) ≡ Ok c.args.after) c.in-Header.is c.requires.after in
     let shape = subst (λ (k : LineKind). IsShaped (fields_of k) (map value_view c.args.values.items)) c.in-Header.is c.requires.shaped in
-    rw c.in-Header.is (adds_header c.args.self.now (map value_view c.args.values.items) c.args.after c.requires.draft j c.requires.limits shape ).lines
+    rw c.in-Header.is (adds_header c.args.self.now (map value_view c.args.values.items) c.args.after c.requires.draft j c.requires.limits shape).lines
 
 pub returns-in-Mem-clause-draft : goal.returns-in-Mem-clause-draft
 returns-in-Mem-clause-draft c =
     let j = subst (λ (k : LineKind). judged c.args.self.now.progress (record { kind = k; values = (map value_view c.args.values.items) }) ≡ Ok c.args.after) c.in-Mem.is c.requires.after in
     let shape = subst (λ (k : LineKind). IsShaped (fields_of k) (map value_view c.args.values.items)) c.in-Mem.is c.requires.shaped in
-    (adds_mem c.args.self.now (map value_view c.args.values.items) c.args.after c.requires.draft j c.requires.limits shape ).draft
+    (adds_mem c.args.self.now (map value_view c.args.values.items) c.args.after c.requires.draft j c.requires.limits shape).draft
 
 pub returns-in-Mem-clause-lines : goal.returns-in-Mem-clause-lines
 returns-in-Mem-clause-lines c =
     let j = subst (λ (k : LineKind). judged c.args.self.now.progress (record { kind = k; values = (map value_view c.args.values.items) }) ≡ Ok c.args.after) c.in-Mem.is c.requires.after in
     let shape = subst (λ (k : LineKind). IsShaped (fields_of k) (map value_view c.args.values.items)) c.in-Mem.is c.requires.shaped in
-    rw c.in-Mem.is (adds_mem c.args.self.now (map value_view c.args.values.items) c.args.after c.requires.draft j c.requires.limits shape ).lines
+    rw c.in-Mem.is (adds_mem c.args.self.now (map value_view c.args.values.items) c.args.after c.requires.draft j c.requires.limits shape).lines
 
 pub returns-in_ok-begin_phase-in-Phase-clause-draft : goal.returns-in_ok-begin_phase-in-Phase-clause-draft
 returns-in_ok-begin_phase-in-Phase-clause-draft c =

@@ -11,4 +11,4 @@ pub returns-in-Err-Fault : goal.returns-in-Err-Fault
 returns-in-Err-Fault c = λ fields.
     let e = rw c.in-Err-Fault.field-0-is at c.in-Err-Fault.ensures in
     rw (c.noted-self-in-Err-Fault.ensures, c.in-Some.is, c.split_part.ensures.parts, e)
-      (faulty c.args.self.now.fault (map value_view c.args.self.now.values.items) c.in-Err-Fault.cause (read_fields fields (parts_of 32 (option_map (λ text. text.now) c.split_part.result.1))))
+    (faulty c.args.self.now.fault (map value_view c.args.self.now.values.items) c.in-Err-Fault.cause (read_fields fields (parts_of 32 (option_map (λ text. text.now) c.split_part.result.1))))
