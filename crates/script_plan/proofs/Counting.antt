@@ -96,3 +96,17 @@ pub phases-fit : (script : Script) → length (configuration_lines script.config
 phases-fit script =
     let front = configuration_lines script.config in
     omega (arith, length-append (front ++ phase_lines script.phases) (show_lines script.shows), length-append front (phase_lines script.phases))
+
+-- a script of one phase and no shows is short where its parts are
+pub one-phase-fits : (script : Script) (phase : Phase) → script.phases ≡ phase ∷ [] → script.shows ≡ [] → lines_of_parts phase.hosts ≤ 3000
+    → length (configuration_lines script.config) ≤ 17 → length (lines_of script) ≤ 4294967294
+one-phase-fits script phase phases shows parts few =
+    let front = configuration_lines script.config in
+    omega (
+      arith,
+      length-append (front ++ phase_lines script.phases) (show_lines script.shows),
+      length-append front (phase_lines script.phases),
+      ap (λ p. length (phase_lines p)) phases,
+      ap (λ s. length (show_lines s)) shows,
+      length-phase_lines phase [],
+    )

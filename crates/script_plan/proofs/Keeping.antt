@@ -3,7 +3,6 @@ use Rattle.std.proofs.Common.{ap, filter, ◌≡◌, ℕ, ◌+◌, ◌<◌, ◌=
 use Rattle.std.specs.List.{AllByRecursion, Contains}
 use Rattle.std.specs.Prelude.{if◌then◌else◌}
 use Rattle.std.proofs.lemmas.Bool.{eq-eqb, eqb-true, leb-false}
-use Rattle.std.proofs.lemmas.List.Sums.{sum_by-cons}
 use Rattle.std.proofs.lemmas.Map.Views.{Contains-from_any}
 use Rattle.script_cmds.specs.declared.item.Item.{Item}
 use Rattle.script_cmds.specs.declared.item.Item.TheVariants as item
@@ -14,9 +13,7 @@ use Rattle.history_model.specs.Plain.{hosts_of}
 use Rattle.history_model.specs.Sent.{Sent, Waiting, ordinals_of, next_ordinal, sends_of_items, sends_of_parts, sends_of_phases}
 use Rattle.history_model.specs.Rules.{KeepsQueue, without}
 use Rattle.history_model.proofs.Every.{every-All, every-weaker, every-filter, Pairwise, pairwise-append}
-use Rattle.script_plan.specs.Counts.{is_send, sends_in_items, sends_in_parts, sends_in_phases}
 use Rattle.script_plan.proofs.Alike.{KeepsPart}
-use Rattle.script_plan.proofs.Counting.{sends_in_parts-cons, sends_in_phases-cons}
 use Rattle.script_plan.proofs.Queue.{any-swap, without-absent}
 
 -- two identifiers are not the same

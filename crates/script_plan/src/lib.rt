@@ -5,6 +5,8 @@ mod answer;
 mod count;
 mod outstanding;
 mod planning;
+#[cfg(test)]
+mod tests;
 
 pub use answer::{Plan, PlanCause, PlanEnd, PlanFault};
 pub use planning::plan;

@@ -1,0 +1,167 @@
+// Plans of small scripts, and the first lines that break a rule.
+ghost use Rattle.std.specs.Prelude.{◌≡◌, ◌≤◌, [], IfOk, length, vec_len};
+ghost use Rattle.history_model.specs.Plan.{lines_of_parts};
+ghost use Rattle.script_cmds.specs.Text.{lines_of};
+
+use crate::count::configuration_lines;
+use crate::{PlanCause, PlanEnd, PlanFault, plan};
+use cp_base::{Command, Config, Sequence, SpaceId};
+use script_cmds::{HostPart, Item, Phase, Script};
+use std::alloc::{AllocError, Global};
+use std::sync::Arc;
+
+// A send or a take of an identifier.
+#[derive(Clone, Copy, Debug, PartialEq, Eq)]
+enum Act {
+    Send(u32),
+    Take(u32),
+}
+
+use Act::{Send, Take};
+
+// What a host does by these words.
+fn part(alloc: Global, host: u32, acts: &[Act]) -> Result<HostPart, AllocError>
+    requires { length acts.now ≤ 1000 }
+    ensures { IfOk result (λ part. length part.items ≡ length acts.now) }
+{
+    let mut items = Vec::new(alloc);
+    for act in acts {
+        let item = match *act {
+            Send(cid) => Item::Send {
+                cid,
+                command: Arc::new(alloc, Command::Unload { slot: cid })?,
+            },
+            Take(cid) => Item::Take { cid },
+        };
+        items.push(item)?;
+    }
+    let items = Sequence::new(items);
+    Ok(HostPart { host, items })
+}
+
+// A script of a device with one memory namespace, whose hosts act in one phase.
+fn script(alloc: Global, config: Config, parts: Vec<HostPart>) -> Result<Script, AllocError>
+    requires { lines_of_parts parts.items ≤ 3000 }
+    ensures { IfOk result (λ script. length (lines_of script) ≤ 4294967294) }
+{
+    // Called for its clause that the lines are few.
+    let _lines = configuration_lines(&config);
+    let mut phases = Vec::new(alloc);
+    let hosts = Sequence::new(parts);
+    phases.push(Phase { hosts })?;
+    let phases = Sequence::new(phases);
+    let shows = Sequence::new(Vec::new(alloc));
+    Ok(Script {
+        config,
+        phases,
+        shows,
+    })
+}
+
+// Whether the items are these acts, each send with the command of its own.
+fn are_acts(items: &[Item], acts: &[Act]) -> bool {
+    items.len() == acts.len()
+        && items.iter().zip(acts).all(|(item, act)| match (item, *act) {
+            (Item::Send { cid, command }, Send(sent)) => {
+                let own = match &**command {
+                    Command::Unload { slot } => *slot == sent,
+                    _ => false,
+                };
+                *cid == sent && own
+            }
+            (Item::Take { cid }, Take(taken)) => *cid == taken,
+            _ => false,
+        })
+}
+
+#[test]
+fn plans_one_host(rt: HostRuntime) -> Result<(), AllocError> {
+    let alloc = rt.alloc();
+    let fault = |line, cause| Err(PlanFault { line, cause });
+    let cases: [(u32, &[Act], Result<&[Act], PlanFault>); 8] = [
+        (1, &[Send(1), Send(2)], fault(6, PlanCause::QueueFull)),
+        (
+            2,
+            &[Send(1), Send(2), Send(3)],
+            fault(7, PlanCause::QueueFull),
+        ),
+        (2, &[Send(1), Send(1)], fault(6, PlanCause::CidBusy)),
+        (1, &[Send(1), Send(1)], fault(6, PlanCause::QueueFull)),
+        (1, &[Take(5)], fault(5, PlanCause::NotOutstanding)),
+        (
+            1,
+            &[Send(1), Take(1), Take(1)],
+            fault(7, PlanCause::NotOutstanding),
+        ),
+        (
+            1,
+            &[Send(1), Take(1), Send(1)],
+            Ok(&[Send(1), Take(1), Send(1), Take(1)]),
+        ),
+        (
+            3,
+            &[Send(3), Send(1), Send(2), Take(1)],
+            Ok(&[Send(3), Send(1), Send(2), Take(1), Take(3), Take(2)]),
+        ),
+    ];
+    for (depth, acts, want) in cases {
+        assert!(rt; acts.len() <= 1000);
+        let config = Config::new(512, depth, 1).expect(&rt, "the header keeps the limits");
+        let config = config
+            .with_size(SpaceId::Mem(1), 16)
+            .expect(&rt, "a small namespace");
+        let mut parts = Vec::new(alloc);
+        parts.push(part(alloc, 1, acts)?)?;
+        let script = script(alloc, config, parts)?;
+        match plan(alloc, &script) {
+            Ok(plan) => {
+                let wanted = want.expect(&rt, "a plan is not wanted");
+                let phases = plan.phases.as_slice();
+                assert!(rt; phases.len() == 1 && phases[0].hosts.as_slice().len() == 1);
+                assert!(rt;
+                    are_acts(phases[0].hosts.as_slice()[0].items.as_slice(), wanted),
+                    "{acts:?}"
+                );
+            }
+            Err(PlanEnd::Fault(told)) => assert_eq!(rt; want, Err(told), "{acts:?}"),
+            Err(PlanEnd::NoMemory) => return Err(AllocError),
+        }
+    }
+    Ok(())
+}
+
+#[test]
+fn plans_hosts_apart(rt: HostRuntime) -> Result<(), AllocError> {
+    let alloc = rt.alloc();
+    let config = Config::new(4096, 1, 1).expect(&rt, "the header keeps the limits");
+    let mut parts = Vec::new(alloc);
+    parts.push(part(alloc, 2, &[Send(1)])?)?;
+    parts.push(part(alloc, 16, &[Send(1)])?)?;
+    let script = script(alloc, config, parts)?;
+    let plan = plan(alloc, &script)
+        .ok()
+        .expect(&rt, "the hosts have queues of their own");
+    assert_eq!(rt; plan.commands, 2);
+    for phase in plan.phases.as_slice() {
+        for part in phase.hosts.as_slice() {
+            assert!(rt; are_acts(part.items.as_slice(), &[Send(1), Take(1)]));
+        }
+    }
+    Ok(())
+}
+
+#[test]
+fn refuses_a_phase_without_hosts(rt: HostRuntime) -> Result<(), AllocError> {
+    let alloc = rt.alloc();
+    let config = Config::new(512, 256, 1).expect(&rt, "the header keeps the limits");
+    let config = config
+        .with_size(SpaceId::Mem(8), 16)
+        .expect(&rt, "a small namespace");
+    let script = script(alloc, config, Vec::new(alloc))?;
+    let want = PlanFault {
+        line: 3,
+        cause: PlanCause::NoHosts,
+    };
+    assert!(rt; plan(alloc, &script).err() == Some(PlanEnd::Fault(want)));
+    Ok(())
+}
