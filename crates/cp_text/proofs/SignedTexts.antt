@@ -1,11 +1,6 @@
 -- Signed texts are the signed decimal texts of 64 bits, both ways.
-<<<<<<< HEAD
 use Rattle.std.proofs.Common.{◌≡◌, ℕ, zero, suc, ◌^◌, ◌<◌, ◌≤◌, ◌≢◌, ◌==◌, true, false, inl, inr, List, [], ◌∷◌, length, get_or, ℤ, pos, negsuc, Option, Some, None, FitsSigned, refl, sym, ap, ◌∙◌, arith}
 use Rattle.std.specs.Prelude.{decimal, nat_lt}
-=======
-use Rattle.std.proofs.Common.{◌≡◌, ℕ, zero, suc, ◌+◌, ◌*◌, ◌^◌, ◌<◌, ◌≤◌, ◌≢◌, ◌==◌, Bool, true, false, cond, ◌⊎◌, inl, inr, List, [], ◌∷◌, length, get_or, ℤ, pos, negsuc, Option, Some, None, FitsSigned, refl, sym, ap, ◌∙◌, arith}
-use Rattle.std.specs.Prelude.{decimal, nat_lt, All, int_lt, if◌then◌else◌}
->>>>>>> c45d35eea7dfb0a00d64f9673d662d71577d9dfe
 use Rattle.std.specs.Fmt.{signed_decimal}
 use Rattle.std.specs.Int.{w64}
 use Rattle.std.proofs.lemmas.Bool.{cases_eq}

@@ -1,9 +1,5 @@
-<<<<<<< HEAD
 -- Texts of bytes: two digits 0 to 9 and a to f for each byte, the high one first. This project's
 -- own.
-=======
--- Texts of bytes: two digits 0 to 9 and a to f for each byte, the high one first. This project's own.
->>>>>>> c45d35eea7dfb0a00d64f9673d662d71577d9dfe
 use Rattle.std.specs.Prelude.{ℕ, ◌+◌, ◌-◌, ◌*◌, ◌/◌, ◌%◌, ◌<◌, ◌≤◌, nat_le, ◌⊎◌, ◌&&◌, List, [], ◌∷◌, All, Option, Some, None, if◌then◌else◌}
 use Rattle.std.specs.Char.{digit_char}
 

@@ -12,25 +12,17 @@ extended value digit = value * 10 + (digit - 48)
 abbrev pub digits_after : ℕ → List ℕ → Option ℕ
 digits_after value [] = Some value
 digits_after value (byte ∷ rest) =
-<<<<<<< HEAD
     if is_ascii_digit byte && nat_lt (extended value byte) (2 ^ 64)
     then digits_after (extended value byte) rest
     else None
-=======
-    if is_ascii_digit byte && nat_lt (extended value byte) (2 ^ 64) then digits_after (extended value byte) rest else None
->>>>>>> c45d35eea7dfb0a00d64f9673d662d71577d9dfe
 
 -- the number that a text spells; None where it spells none: it is empty, a byte is no digit, a zero
 -- leads other digits, or the value is above 18,446,744,073,709,551,615
 abbrev pub number_of : List ℕ → Option ℕ
 number_of [] = None
 number_of (digit ∷ []) = digits_after 0 (digit ∷ [])
-<<<<<<< HEAD
 number_of (first ∷ second ∷ rest) =
     if first == 48 then None else digits_after 0 (first ∷ second ∷ rest)
-=======
-number_of (first ∷ second ∷ rest) = if first == 48 then None else digits_after 0 (first ∷ second ∷ rest)
->>>>>>> c45d35eea7dfb0a00d64f9673d662d71577d9dfe
 
 -- each is a digit 0 to 9
 abbrev pub AreDigits : List ℕ → Type 0

@@ -1,10 +1,5 @@
-<<<<<<< HEAD
 -- Texts of signed numbers: a number, or a minus and a number that is not 0, and at most 64 bits.
 -- The one text of a signed number z is `signed_decimal z`. This project's own.
-=======
--- Texts of signed numbers: a number, or a minus and a number that is not 0, and at most 64 bits. The
--- one text of a signed number z is `signed_decimal z`. This project's own.
->>>>>>> c45d35eea7dfb0a00d64f9673d662d71577d9dfe
 use Rattle.std.specs.Prelude.{◌≡◌, ℕ, zero, suc, ◌≤◌, ◌⊎◌, All, ◌^◌, ◌==◌, nat_lt, List, [], ◌∷◌, ℤ, pos, negsuc, Option, Some, None, if◌then◌else◌}
 use Rattle.cp_text.specs.Number.{number_of}
 
@@ -22,12 +17,8 @@ negated (Some (suc n)) = if nat_lt n (2 ^ 63) then Some (negsuc n) else None
 -- the signed number that a text spells; None where it spells none
 abbrev pub signed_of : List ℕ → Option ℤ
 signed_of [] = None
-<<<<<<< HEAD
 signed_of (first ∷ rest) =
     if first == 45 then negated (number_of rest) else plain (number_of (first ∷ rest))
-=======
-signed_of (first ∷ rest) = if first == 45 then negated (number_of rest) else plain (number_of (first ∷ rest))
->>>>>>> c45d35eea7dfb0a00d64f9673d662d71577d9dfe
 
 -- a digit 0 to 9, or a minus
 abbrev pub IsSignedDigit : ℕ → Type 0

@@ -6,7 +6,6 @@ ghost use Rattle.cp_text.specs.Number.{AreDigits, number_of};
 ghost use Rattle.cp_text.specs.Signed.{AreSignedDigits, signed_of};
 ghost use Rattle.cp_text.specs.HexText.{AreBytes, AreHexDigits, hex_of, hex_text};
 
-<<<<<<< HEAD
 /// A text is read as a number exactly where it is the one text of that number, of 64 bits. This
 /// text is 1 to 20 digits, and another number has another.
 pub fn number_laws()
@@ -44,40 +43,6 @@ pub fn hex_laws()
     ensures digits { (bytes : List ℕ) → AreBytes bytes → AreHexDigits (hex_text bytes) }
     ensures len { (bytes : List ℕ) → length (hex_text bytes) ≡ 2 * length bytes }
 {}
-=======
-/// A text is read as a number exactly where it is the one text of that number, of 64 bits. This text
-/// is 1 to 20 digits, and another number has another.
-pub fn number_laws()
-    ensures spelled_so { (text : List ℕ) (n : ℕ) → number_of text ≡ Some n → (text ≡ decimal n) × (n < 2 ^ 64) }
-    ensures read_so { (n : ℕ) → n < 2 ^ 64 → number_of (decimal n) ≡ Some n }
-    ensures one_number { (m n : ℕ) → m < 2 ^ 64 → n < 2 ^ 64 → decimal m ≡ decimal n → m ≡ n }
-    ensures digits { (n : ℕ) → n < 2 ^ 64 → AreDigits (decimal n) }
-    ensures len { (n : ℕ) → n < 2 ^ 64 → (1 ≤ length (decimal n)) × (length (decimal n) ≤ 20) }
-{
-}
-
-/// A text is read as a signed number exactly where it is the one text of that number, of 64 bits. This
-/// text is 1 to 20 bytes, digits or a minus, and another number has another.
-pub fn signed_laws()
-    ensures spelled_so { (text : List ℕ) (z : ℤ) → signed_of text ≡ Some z → (text ≡ signed_decimal z) × FitsSigned w64 z }
-    ensures read_so { (z : ℤ) → FitsSigned w64 z → signed_of (signed_decimal z) ≡ Some z }
-    ensures one_number { (y z : ℤ) → FitsSigned w64 y → FitsSigned w64 z → signed_decimal y ≡ signed_decimal z → y ≡ z }
-    ensures digits { (z : ℤ) → FitsSigned w64 z → AreSignedDigits (signed_decimal z) }
-    ensures len { (z : ℤ) → FitsSigned w64 z → (1 ≤ length (signed_decimal z)) × (length (signed_decimal z) ≤ 20) }
-{
-}
-
-/// A text is read as bytes exactly where it is the one text of these bytes. It has two digits a byte,
-/// and other bytes have another.
-pub fn hex_laws()
-    ensures spelled_so { (text bytes : List ℕ) → hex_of text ≡ Some bytes → (text ≡ hex_text bytes) × AreBytes bytes }
-    ensures read_so { (bytes : List ℕ) → AreBytes bytes → hex_of (hex_text bytes) ≡ Some bytes }
-    ensures one_list { (a b : List ℕ) → AreBytes a → AreBytes b → hex_text a ≡ hex_text b → a ≡ b }
-    ensures digits { (bytes : List ℕ) → AreBytes bytes → AreHexDigits (hex_text bytes) }
-    ensures len { (bytes : List ℕ) → length (hex_text bytes) ≡ 2 * length bytes }
-{
-}
->>>>>>> c45d35eea7dfb0a00d64f9673d662d71577d9dfe
 
 /// What some texts are read as: numbers at the limits, and texts that are nearly numbers.
 pub fn number_examples()
@@ -89,12 +54,7 @@ pub fn number_examples()
     ensures too_large { number_of (codes "18446744073709551616") ≡ None }
     ensures plus { number_of (codes "+1") ≡ None }
     ensures space_behind { number_of (codes "1 ") ≡ None }
-<<<<<<< HEAD
 {}
-=======
-{
-}
->>>>>>> c45d35eea7dfb0a00d64f9673d662d71577d9dfe
 
 /// The same of signed numbers.
 pub fn signed_examples()
@@ -106,12 +66,7 @@ pub fn signed_examples()
     ensures too_large { signed_of (codes "9223372036854775808") ≡ None }
     ensures least { signed_of (codes "-9223372036854775808") ≡ Some (negsuc 9223372036854775807) }
     ensures too_small { signed_of (codes "-9223372036854775809") ≡ None }
-<<<<<<< HEAD
 {}
-=======
-{
-}
->>>>>>> c45d35eea7dfb0a00d64f9673d662d71577d9dfe
 
 /// The same of bytes, and how bytes are written.
 pub fn hex_examples()
@@ -121,9 +76,4 @@ pub fn hex_examples()
     ensures odd { hex_of (codes "0a0") ≡ None }
     ensures no_digit { hex_of (codes "0g") ≡ None }
     ensures written { hex_text (10 ∷ 255 ∷ []) ≡ codes "0aff" }
-<<<<<<< HEAD
 {}
-=======
-{
-}
->>>>>>> c45d35eea7dfb0a00d64f9673d662d71577d9dfe

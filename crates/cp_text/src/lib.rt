@@ -6,7 +6,6 @@ mod laws;
 mod numbers;
 mod pieces;
 mod signed_numbers;
-<<<<<<< HEAD
 #[cfg(test)]
 mod tests;
 
@@ -14,11 +13,6 @@ pub use hexadecimal::{append_hex, hex_bytes, push_hex};
 pub use laws::{
     hex_examples, hex_laws, number_examples, number_laws, signed_examples, signed_laws,
 };
-=======
-
-pub use hexadecimal::{append_hex, hex_bytes, push_hex};
-pub use laws::{hex_examples, hex_laws, number_examples, number_laws, signed_examples, signed_laws};
->>>>>>> c45d35eea7dfb0a00d64f9673d662d71577d9dfe
 pub use numbers::{append_number, number, push_number};
 pub use pieces::{make_room, push_piece};
 pub use signed_numbers::{append_signed, push_signed, signed};

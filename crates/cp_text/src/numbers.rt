@@ -25,13 +25,8 @@ pub fn number(text: &[u8]) -> Option<u64>
 fn with_digit(value: u64, byte: u8) -> Option<u64>
     ensures { result
         ≡ (if is_ascii_digit byte && nat_lt (extended value byte) (2 ^ 64)
-<<<<<<< HEAD
         then Some (extended value byte)
         else None) }
-=======
-            then Some (extended value byte)
-            else None) }
->>>>>>> c45d35eea7dfb0a00d64f9673d662d71577d9dfe
 {
     if !byte.is_ascii_digit() {
         return None;

@@ -1,8 +1,4 @@
-<<<<<<< HEAD
 use Rattle.std.proofs.Common.{◌<◌, ◌++◌, List, ℕ, length, get_or, ap, ◌∙◌, arith}
-=======
-use Rattle.std.proofs.Common.{◌≡◌, ◌<◌, ◌++◌, List, ℕ, length, get_or, ap, ◌∙◌, arith}
->>>>>>> c45d35eea7dfb0a00d64f9673d662d71577d9dfe
 use Rattle.std.proofs.lemmas.List.Elements.{All-from_get_or}
 use Rattle.cp_text.proofs.HexTexts.{encode_lower-bytes}
 use Rattle.cp_text.specs.HexText.{AreBytes}

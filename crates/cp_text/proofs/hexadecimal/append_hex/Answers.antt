@@ -1,9 +1,4 @@
-<<<<<<< HEAD
 use Rattle.std.proofs.Common.{arith}
-=======
-use Rattle.std.proofs.Common.{◌≡◌, ◌++◌, length, take, drop, min, arith}
-use Rattle.cp_text.specs.HexText.{hex_text}
->>>>>>> c45d35eea7dfb0a00d64f9673d662d71577d9dfe
 use Rattle.cp_text.proofs.HexTexts.{hex_text-more}
 use Rattle.cp_text.proofs.hexadecimal.append_hex.Goals as goal
 

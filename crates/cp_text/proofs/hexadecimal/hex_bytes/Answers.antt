@@ -1,8 +1,4 @@
-<<<<<<< HEAD
 use Rattle.std.proofs.Common.{List, ℕ, Some, sym, ap, ◌∙◌}
-=======
-use Rattle.std.proofs.Common.{◌≡◌, List, ℕ, Some, sym, ap, ◌∙◌, arith}
->>>>>>> c45d35eea7dfb0a00d64f9673d662d71577d9dfe
 use Rattle.cp_text.specs.HexText.{hex_of}
 use Rattle.cp_text.proofs.HexTexts.{hex_of-none, hex_of-read}
 use Rattle.cp_text.proofs.hexadecimal.hex_bytes.Goals as goal
