@@ -2,6 +2,7 @@
 use Rattle.std.proofs.Common.{◌≡◌, ℕ, ◌+◌, ◌<◌, List, ◌++◌, length, take, Option, Result, Ok, Err, OnErr, sym, ap, ◌∙◌, subst, arith, length-append}
 use Rattle.std.proofs.KnownBytes.{Appends-trans}
 use Rattle.std.proofs.lemmas.Grind.{common_steps}
+use Rattle.std.proofs.Math.Seq.{take-append-add}
 use Rattle.std.specs.Io.KnownBytes.{Appends}
 use Rattle.cp_io.specs.Sink.{AppendsFront}
 
@@ -18,7 +19,7 @@ front_of_first old new xs ys h =
 -- a whole text and a front of the second are a front of both
 pub front_of_second : (old mid new : Option (List ℕ)) (xs ys : List ℕ) → Appends old mid xs → AppendsFront mid new ys → AppendsFront old new (xs ++ ys)
 front_of_second old mid new xs ys whole h =
-    let same : take (length xs + h.count) (xs ++ ys) ≡ xs ++ take h.count ys = grind (arith, common_steps) in
+    let same : take (length xs + h.count) (xs ++ ys) ≡ xs ++ take h.count ys = take-append-add xs ys h.count in
     record {
       count = length xs + h.count;
       short = omega (arith, h.short, length-append xs ys);

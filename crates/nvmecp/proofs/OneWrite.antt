@@ -123,10 +123,10 @@ one_print script cid cmd show answer next h found shows step =
       history = entry ∷ [];
       legal = one_legal c one.plan sent answer next one.sends step;
       printed =
-        (let line : List ℕ = line_of_entry 1 1 1 cid (word_of cmd) answer.status answer.result answer.bytes in
-        let last : State = after_entry c (opening c) entry in
-        ap (λ (s : State). line ++ shown_text show (bytes_in s.contents show.range)) settles
-        ∙ sym (ap (λ (shown : List Show). (line ++ []) ++ shows_text last.contents shown) shows
+          (let line : List ℕ = line_of_entry 1 1 1 cid (word_of cmd) answer.status answer.result answer.bytes in
+          let last : State = after_entry c (opening c) entry in
+          ap (λ (s : State). line ++ shown_text show (bytes_in s.contents show.range)) settles
+          ∙ sym (ap (λ (shown : List Show). (line ++ []) ++ shows_text last.contents shown) shows
           ∙ ap (λ (front : List ℕ). front ++ (shown_text show (bytes_in last.contents show.range) ++ [])) (append-nil line)
           ∙ ap (λ (back : List ℕ). line ++ back) (append-nil (shown_text show (bytes_in last.contents show.range)))));
     }

@@ -1,12 +1,10 @@
 -- The parts of a single write. This project's own.
 use Rattle.std.specs.Prelude.{◌≡◌, ℕ, true, List, [], ◌∷◌}
-
 use Rattle.cp_base.specs.declared.commands.Command.{Command}
 use Rattle.script_cmds.specs.declared.item.Item.{Item}
 use Rattle.script_cmds.specs.declared.item.Item.TheVariants as item
 use Rattle.script_cmds.specs.declared.item.HostPart.{HostPart}
 use Rattle.script_cmds.specs.declared.item.Phase.{Phase}
-
 use Rattle.nvmecp.specs.Single.{is_write}
 
 -- the items are this one write

@@ -23,11 +23,7 @@ pub struct Lines {
 }
 
 /// Carries out a single write, and gives the lines to print. All memory is taken here.
-pub fn carry_out(
-    alloc: Global,
-    script: &Script,
-    found: &SingleWrite,
-) -> Result<Lines, NoMemory>
+pub fn carry_out(alloc: Global, script: &Script, found: &SingleWrite) -> Result<Lines, NoMemory>
     requires write { FindsPhase script.now.phases found.now.sent.cid found.now.sent.command.now }
     requires show { script.now.shows ≡ found.now.show.now ∷ [] }
     requires shown { is_shown script.now.config found.now.show.now.range ≡ true }

@@ -94,12 +94,7 @@ fn step<S: Source, K: Sink>(alloc: Global, source: &mut S, sink: &mut K) -> u8
 /// Runs the program: the words of the command line after its name, the source of its input and the sink
 /// of its text. Gives the status: 0 done, 1 wrong words, 2 the input is refused, 3 the source failed,
 /// 4 the sink failed, 5 memory is wanting.
-pub fn run<S: Source, K: Sink>(
-    alloc: Global,
-    words: &[String],
-    source: &mut S,
-    sink: &mut K,
-) -> u8
+pub fn run<S: Source, K: Sink>(alloc: Global, words: &[String], source: &mut S, sink: &mut K) -> u8
     // The words.
     ensures usage { (result ≡ 1) ↔ (choices_of (map string_bytes words.now) ≡ None) }
     ensures untouched { result ≡ 1 → (source.new ≡ source.old) × (sink.new ≡ sink.old) }

@@ -24,7 +24,7 @@ returns c =
     let word_is : word_of cmd ≡ word.MemWrite = written_word cmd (found_write script.phases cid cmd c.requires.write) in
     let step : DeviceStep config (opening config) cmd answer next = search (rules, c.step-reply.ensures.step, c.in_ok-device.ensures) in
     let print : IsPrintOf script (line_of_entry 1 1 1 cid (word_of cmd) answer.status answer.result answer.bytes ++ shown_text found.show.now (bytes_in next.contents found.show.now.range)) =
-        one_print script cid cmd found.show.now answer next (search rules) c.requires.write c.requires.show step in
+    one_print script cid cmd found.show.now answer next (search rules) c.requires.write c.requires.show step in
     let entry_is : c.push_entry.new.out.items ≡ line_of_entry 1 1 1 cid (word_of cmd) answer.status answer.result answer.bytes = search (rules, c.in_ok-push_entry.ensures.items, c.new-entry.ensures.items, c.as_slice.ensures, word_is) in
     let show_is : c.push_show.new.out.items ≡ shown_text found.show.now (bytes_in next.contents found.show.now.range) = search (rules, c.in_ok-push_show.ensures.items, c.new-show.ensures.items, c.slice.ensures) in
     subst (λ (text : List ℕ). IsPrintOf script (text ++ c.push_show.new.out.items)) (sym entry_is)

@@ -1,0 +1,200 @@
+// Worked runs: what no clause says, and that a run succeeds where there is memory.
+ghost use Rattle.std.specs.Prelude.{Some};
+
+use crate::run::run;
+use cp_base::Bytes;
+use cp_io::{MemSink, MemSource, Sink, Took};
+use std::alloc::Global;
+
+const WRITE: &str =
+    "nvmecp 1 block=512 depth=16 budget=1000\nmem 1 bytes=16\nphase\nhost 1\nsend 1 memwrite ns=1 at=0 data=0102\nshow mem 1 at=0 len=4\n";
+
+// The words of a line, one space between two.
+fn words_of(alloc: Global, line: &str) -> Option<Vec<String>> {
+    let mut words = Vec::new(alloc);
+    for word in line.split(' ') {
+        words.push(String::from_str(alloc, word).ok()?).ok()?;
+    }
+    Some(words)
+}
+
+// A source in memory whose calls of these numbers fail.
+fn source(alloc: Global, input: &[u8], most: u32, fails: &[u32]) -> Option<MemSource> {
+    let bytes = Bytes::from_slice(alloc, input).ok()?;
+    let fails = Vec::from_slice(alloc, fails).ok()?;
+    if most == 0 {
+        return None;
+    }
+    Some(MemSource::new(bytes, most, fails))
+}
+
+// A sink in memory whose calls of these numbers fail.
+fn sink(alloc: Global, fails: &[u32]) -> Option<MemSink> {
+    MemSink::new(alloc, Vec::from_slice(alloc, fails).ok()?).ok()
+}
+
+// The status of a run, and whether the sink holds this text at its end.
+fn ran(alloc: Global, words: &str, source: &mut MemSource, sink: &mut MemSink) -> Option<u8> {
+    Some(run(alloc, words_of(alloc, words)?.as_slice(), source, sink))
+}
+
+// The status of a run of `step 1 0` on an input, and whether exactly this text is held.
+fn step(alloc: Global, input: &str, output: &str) -> Option<(u8, bool)> {
+    let mut source = source(alloc, input.as_bytes(), 64, &[])?;
+    let mut sink = sink(alloc, &[])?;
+    let status = ran(alloc, "step 1 0", &mut source, &mut sink)?;
+    Some((status, sink.held() == output.as_bytes()))
+}
+
+#[test]
+fn scripts_give_their_texts(rt: HostRuntime) {
+    for (input, status, output) in [
+        (
+            WRITE,
+            0,
+            "#1 h1 n1 c1 memwrite Ok r=0 d=\nshow mem 1 at=0 len=4 d=01020000\n",
+        ),
+        (
+            "nvmecp 1 block=512 depth=16 budget=1000\nmem 1 bytes=16\nphase\nhost 1\nsend 1 memwrite ns=1 at=16 data=01\nshow mem 1 at=0 len=4\n",
+            0,
+            "#1 h1 n1 c1 memwrite OutOfRange r=0 d=\nshow mem 1 at=0 len=4 d=00000000\n",
+        ),
+        (
+            "nvmecp 1 block=512 depth=16 budget=1000\nmem 1 bytes=16\nphase\nhost 1\nsend 1 memwrite ns=1 at=15 data=01\nshow mem 1 at=12 len=4\n",
+            0,
+            "#1 h1 n1 c1 memwrite Ok r=0 d=\nshow mem 1 at=12 len=4 d=00000001\n",
+        ),
+        (
+            "nvmecp 1 block=512 depth=16 budget=1000\nmem 1 bytes=16\nphase\nhost 1\nsend 1 memwrite ns=1 at=18446744073709551615 data=01\nshow mem 1 at=0 len=4\n",
+            0,
+            "#1 h1 n1 c1 memwrite OutOfRange r=0 d=\nshow mem 1 at=0 len=4 d=00000000\n",
+        ),
+        (
+            "nvmecp 1 block=512 depth=16 budget=1000\nmem 1 bytes=16\nphase\nhost 1\nsend 1 memwrite ns=2 at=0 data=01\nshow mem 1 at=0 len=4\n",
+            0,
+            "#1 h1 n1 c1 memwrite BadNamespace r=0 d=\nshow mem 1 at=0 len=4 d=00000000\n",
+        ),
+        ("", 2, "line 1: Word\n"),
+        (
+            "nvmecp 1 block=512 depth=16 budget=1000\n",
+            2,
+            "line 1: Word\n",
+        ),
+    ] {
+        assert_eq!(rt;
+            step(rt.alloc(), input, output),
+            Some((status, true)),
+            "{input}"
+        );
+    }
+}
+
+// The status of a run of these words on the script of one write, and how many bytes the sink holds.
+fn worded(alloc: Global, words: &str) -> Option<(u8, usize)> {
+    let mut source = source(alloc, WRITE.as_bytes(), 64, &[])?;
+    let mut sink = sink(alloc, &[])?;
+    let status = ran(alloc, words, &mut source, &mut sink)?;
+    Some((status, sink.held().len()))
+}
+
+#[test]
+fn wrong_words_touch_nothing(rt: HostRuntime) {
+    for words in [
+        "step 0 0",
+        "step 1",
+        "step 1 00",
+        "step -- 1 0",
+        "step 1 18446744073709551616",
+        "help",
+        "",
+        "step 2 0",
+        "serve 1",
+        "make 0 0",
+        "asm",
+        "dis",
+        "step 1 0 0",
+        "--help",
+    ] {
+        assert_eq!(rt; worded(rt.alloc(), words), Some((1, 0)), "{words}");
+    }
+    assert_eq!(rt;
+        worded(rt.alloc(), "step 1 18446744073709551615"),
+        Some((0, 64))
+    );
+}
+
+// The status of a run over a source and a sink of which these calls fail, and what the sink holds.
+fn failing(alloc: Global, reads: &[u32], writes: &[u32]) -> Option<(u8, usize)> {
+    let mut source = source(alloc, WRITE.as_bytes(), 64, reads)?;
+    let mut sink = sink(alloc, writes)?;
+    let status = ran(alloc, "step 1 0", &mut source, &mut sink)?;
+    Some((status, sink.held().len()))
+}
+
+#[test]
+fn faults_are_told(rt: HostRuntime) {
+    let none: &[u32] = &[];
+    for (reads, writes, status, held) in [
+        ([1].as_slice(), none, 3, 0),
+        ([2].as_slice(), none, 3, 0),
+        (none, [1].as_slice(), 4, 0),
+        (none, [2].as_slice(), 4, 31),
+    ] {
+        assert_eq!(rt; failing(rt.alloc(), reads, writes), Some((status, held)));
+    }
+}
+
+// The status of a run on so many bytes, and how many bytes the sink holds.
+fn sized(alloc: Global, len: u64) -> Option<(u8, usize)> {
+    let bytes = Bytes::filled(alloc, len, b'x').ok()?;
+    let mut source = MemSource::new(bytes, 65_536, Vec::new(alloc));
+    let mut sink = sink(alloc, &[])?;
+    let status = ran(alloc, "step 1 0", &mut source, &mut sink)?;
+    Some((status, sink.held().len()))
+}
+
+#[test]
+fn too_many_bytes_are_told(rt: HostRuntime) {
+    assert_eq!(rt; sized(rt.alloc(), 16_777_217), Some((2, 9)), "too long");
+    assert_eq!(rt; sized(rt.alloc(), 16_777_216), Some((2, 13)), "no newline");
+}
+
+// A sink that takes one byte at a time, and holds what it took.
+#[derive(Drop)]
+struct Drip {
+    bytes: Bytes,
+    faults: u64,
+}
+
+impl Sink for Drip {
+    ghost held = { λ s. Some s.bytes.items };
+
+    ghost faults = { λ s. s.faults };
+
+    fn write(&mut self, piece: &[u8]) -> Took {
+        if self.bytes.push(piece[0]).is_err() {
+            self.faults = self.faults.saturating_add(1);
+            return Took::Failed;
+        }
+        Took::Count(1)
+    }
+}
+
+// The status of a run over a source of one byte a read and a sink of one byte a write, and how many
+// bytes the sink holds.
+fn dripped(alloc: Global) -> Option<(u8, u64)> {
+    let mut source = source(alloc, WRITE.as_bytes(), 1, &[])?;
+    let mut sink = Drip {
+        bytes: Bytes::new(alloc),
+        faults: 0,
+    };
+    let words = words_of(alloc, "step 1 7")?;
+    let status = run(alloc, words.as_slice(), &mut source, &mut sink);
+    let held = sink.bytes.len();
+    Some((status, held))
+}
+
+#[test]
+fn short_reads_and_writes_are_taken_up(rt: HostRuntime) {
+    assert_eq!(rt; dripped(rt.alloc()), Some((0, 64)));
+}
