@@ -24,6 +24,11 @@ pub record Accepts (input : List ℕ) : Type 0 where
 abbrev pub Refuses : List ℕ → Type 0
 Refuses input = IsSome (first_fault input) ⊎ ((script : Script) × (script_text script ≡ input) × (is_single_write script ≡ false))
 
+-- The input is refused whatever script of that text is read: a line of it is faulty, or each script
+-- whose text it is is no single write.
+abbrev pub Rejects : List ℕ → Type 0
+Rejects input = (first_fault input ≡ None → ⊥) ⊎ ((script : Script) → script_text script ≡ input → is_single_write script ≡ false)
+
 -- the line that tells that too many bytes came
 abbrev pub too_long_line : List ℕ
 too_long_line = codes "too long" ++ 10 ∷ []

@@ -1,6 +1,7 @@
 -- What a run of the program has read and written, by its status. This project's own.
 use Rattle.std.specs.Prelude.{◌≡◌, ℕ, ◌≤◌, ◌⊎◌, List, Option, length}
 use Rattle.std.specs.Io.KnownBytes.{Appends, IsAtEnd, Keeps}
+use Rattle.cp_io.specs.Counting.{Rose}
 use Rattle.cp_io.specs.Sink.{AppendsFront}
 use Rattle.cp_io.specs.Source.{Gave}
 use Rattle.nvmecp.specs.Input.{IsHistory, IsRefusal, max_input}
@@ -41,3 +42,8 @@ pub record IsCutShort (left left' : Option (List ℕ)) (given given' : ℕ) (hel
   pub input : List ℕ
   pub gave : Gave left left' given given' input
   pub writes : WritesFront (IsDue input) held held'
+
+-- Nothing failed: neither count of faults rose.
+pub record NoFault (source_faults source_faults' sink_faults sink_faults' : ℕ) : Type 0 where
+  pub source : Rose source_faults source_faults' → ⊥
+  pub sink : Rose sink_faults sink_faults' → ⊥

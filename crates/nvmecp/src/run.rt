@@ -1,11 +1,11 @@
 // A run of the program: words, reading, parsing, carrying out and printing, in this order.
-ghost use Rattle.std.specs.Prelude.{◌≡◌, ◌≤◌, ◌⊎◌, ◌↔◌, None, length, map};
+ghost use Rattle.std.specs.Prelude.{◌≡◌, ℕ, ◌≤◌, ◌⊎◌, ◌↔◌, List, Some, None, length, map};
 ghost use Rattle.std.specs.String.{string_bytes};
 ghost use Rattle.std.specs.Io.KnownBytes.{Appends};
 ghost use Rattle.cp_io.specs.Counting.{Rose};
 ghost use Rattle.cp_io.specs.Sink.{AppendsFront};
-ghost use Rattle.nvmecp.specs.Input.{Accepts, IsHistory, IsRefusal, Refuses, max_input};
-ghost use Rattle.nvmecp.specs.Run.{Done, IsCutShort, IsDue, IsRefused, Writes, WritesFront};
+ghost use Rattle.nvmecp.specs.Input.{Accepts, IsHistory, IsRefusal, Rejects, max_input};
+ghost use Rattle.nvmecp.specs.Run.{Done, IsCutShort, IsDue, IsRefused, NoFault, Writes, WritesFront};
 ghost use Rattle.nvmecp.specs.Words.{choices_of};
 
 use crate::carrying::{carry_out, print};
@@ -55,6 +55,7 @@ fn answer<K: Sink>(alloc: Global, input: &Bytes, sink: &mut K) -> u8
     ensures write_fault { result ≡ 4 → Rose (K.faults sink.old) (K.faults sink.new) }
     ensures no_memory { result ≡ 5 → sink.new ≡ sink.old }
     ensures accepted { Accepts input.now.items → result ≡ 2 → ⊥ }
+    ensures rejected { Rejects input.now.items → result ≡ 0 → ⊥ }
 {
     let script = match parse(alloc, input) {
         Ok(script) => script,
@@ -74,6 +75,7 @@ fn answer<K: Sink>(alloc: Global, input: &Bytes, sink: &mut K) -> u8
 }
 
 // Reads an input and answers it.
+#[tactic(auto, using(crate::proofs::Inputs::not_too_long, crate::proofs::Inputs::same_input))]
 fn step<S: Source, K: Sink>(alloc: Global, source: &mut S, sink: &mut K) -> u8
     ensures status { (result ≡ 0) ⊎ (result ≡ 2) ⊎ (result ≡ 3) ⊎ (result ≡ 4) ⊎ (result ≡ 5) }
     ensures done { result ≡ 0 → Done (S.left source.old) (S.left source.new) (S.given source.old) (S.given source.new) (K.held sink.old) (K.held sink.new) }
@@ -82,6 +84,8 @@ fn step<S: Source, K: Sink>(alloc: Global, source: &mut S, sink: &mut K) -> u8
     ensures read_fault { result ≡ 3 → Rose (S.faults source.old) (S.faults source.new) }
     ensures write_fault { result ≡ 4 → Rose (K.faults sink.old) (K.faults sink.new) }
     ensures unwritten { (result ≡ 3) ⊎ (result ≡ 5) → sink.new ≡ sink.old }
+    ensures accepted { (input : List ℕ) → S.left source.old ≡ Some input → length input ≤ max_input → Accepts input → result ≡ 2 → ⊥ }
+    ensures rejected { (input : List ℕ) → S.left source.old ≡ Some input → Rejects input → result ≡ 0 → ⊥ }
 {
     match read_all(alloc, source, MAX_INPUT) {
         Ok(input) => answer(alloc, &input, sink),
@@ -109,6 +113,15 @@ pub fn run<S: Source, K: Sink>(alloc: Global, words: &[String], source: &mut S, 
     ensures cut_short { result ≡ 4 → IsCutShort (S.left source.old) (S.left source.new) (S.given source.old) (S.given source.new) (K.held sink.old) (K.held sink.new) }
     ensures unwritten { (result ≡ 3) ⊎ (result ≡ 5) → sink.new ≡ sink.old }
     ensures statuses { result ≤ 5 }
+
+    // Good words and no fault: an accepted input is done and a rejected one is refused, unless memory is
+    // wanting.
+    ensures accepted { (input : List ℕ) → S.left source.old ≡ Some input → length input ≤ max_input → Accepts input
+        → (choices_of (map string_bytes words.now) ≡ None → ⊥) → NoFault (S.faults source.old) (S.faults source.new) (K.faults sink.old) (K.faults sink.new)
+        → (result ≡ 0) ⊎ (result ≡ 5) }
+    ensures rejected { (input : List ℕ) → S.left source.old ≡ Some input → length input ≤ max_input → Rejects input
+        → (choices_of (map string_bytes words.now) ≡ None → ⊥) → NoFault (S.faults source.old) (S.faults source.new) (K.faults sink.old) (K.faults sink.new)
+        → (result ≡ 2) ⊎ (result ≡ 5) }
 {
     match choices(words) {
         Some(_) => step(alloc, source, sink),
