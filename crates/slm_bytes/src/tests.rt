@@ -34,26 +34,28 @@ fn ranges_are_checked_in_order(rt: HostRuntime) {
     }
 }
 
-// The first bytes of a memory of 16 bytes of which some were written, and the byte behind them.
-fn written(alloc: Global, from: &[u8]) -> Option<(Bytes, Option<u8>)> {
+// How many bytes a piece has before they are written over, and the first three bytes afterwards, of a
+// memory of 16 bytes.
+fn written(alloc: Global, from: &[u8]) -> Option<(u64, [Option<u8>; 3])> {
+    let memory = SpaceId::Mem(1);
     let mut flat = Flat::new(alloc, &memory_1(16)?).ok()?;
     let bytes = Bytes::from_slice(alloc, from).ok()?;
-    let range = ByteRange::new(SpaceId::Mem(1), 0, bytes.len())?;
-    if range.end() > 16 || flat.byte(SpaceId::Mem(1), 15) != Some(0) {
+    let range = ByteRange::new(memory, 0, bytes.len())?;
+    if range.end() > 16 || flat.byte(memory, 15) != Some(0) {
         return None;
     }
+    let before = flat.piece(&range).ok()?;
     flat.patch(&range, &bytes);
-    let behind = flat.byte(SpaceId::Mem(1), range.end());
-    Some((flat.piece(&range).ok()?, behind))
+    let after = [
+        flat.byte(memory, 0),
+        flat.byte(memory, 1),
+        flat.byte(memory, 2),
+    ];
+    Some((before.len(), after))
 }
 
 #[test]
 fn bytes_are_kept(rt: HostRuntime) {
     let found = written(rt.alloc(), &[1, 2]);
-    assert!(rt; found.is_some());
-    if let Some((bytes, behind)) = found {
-        assert_eq!(rt; bytes.get(0), Some(1));
-        assert_eq!(rt; bytes.get(1), Some(2));
-        assert_eq!(rt; behind, Some(0));
-    }
+    assert_eq!(rt; found, Some((2, [Some(1), Some(2), Some(0)])));
 }
