@@ -2,7 +2,7 @@
 use Rattle.std.proofs.Common.{◌≡◌, ℕ, ◌+◌, ◌≤◌, ◌==◌, not, Bool, true, false, List, [], ◌∷◌, ◌++◌, suc, cond, filter, length, arith, refl, sym, ◌∙◌, ap, length-append}
 use Rattle.std.specs.Prelude.{count_by, if◌then◌else◌}
 use Rattle.std.proofs.lemmas.List.Sums.{count_by-le-length, sum_by-cons}
-use Rattle.script_cmds.specs.Line.{Kind}
+use Rattle.script_cmds.specs.declared.kind.LineKind.{LineKind}
 use Rattle.script_cmds.specs.Text.{numbers_line, size_lines, configuration_lines, part_lines, item_lines, phase_lines, show_lines, lines_of}
 use Rattle.script_cmds.specs.declared.item.Item.{Item}
 use Rattle.script_cmds.specs.declared.item.HostPart.{HostPart}
@@ -14,13 +14,13 @@ use Rattle.history_model.specs.Sent.{Sent, Waiting, ordinals_of, next_ordinal, s
 use Rattle.script_plan.specs.Counts.{sends_in_items, sends_in_parts, sends_in_phases, is_send}
 
 -- one size more
-size-step : (kind : Kind) (number size : ℕ) (sizes : List ℕ) (none : Bool) (count : ℕ) → length (size_lines kind (number + 1) sizes) ≡ count
+size-step : (kind : LineKind) (number size : ℕ) (sizes : List ℕ) (none : Bool) (count : ℕ) → length (size_lines kind (number + 1) sizes) ≡ count
     → length (if none then size_lines kind (number + 1) sizes else numbers_line kind (number ∷ size ∷ []) ∷ size_lines kind (number + 1) sizes) ≡ cond {A = ℕ} (not none) 1 0 + count
 size-step kind number size sizes true count more = omega (arith, more)
 size-step kind number size sizes false count more = omega (arith, more)
 
 -- each size that is not 0 has a line
-pub length-size_lines : (kind : Kind) (number : ℕ) (sizes : List ℕ) → length (size_lines kind number sizes) ≡ count_by (λ size. not (size == 0)) sizes
+pub length-size_lines : (kind : LineKind) (number : ℕ) (sizes : List ℕ) → length (size_lines kind number sizes) ≡ count_by (λ size. not (size == 0)) sizes
 length-size_lines kind number [] = refl
 length-size_lines kind number (size ∷ sizes) =
     size-step kind number size sizes (size == 0) (count_by (λ n. not (n == 0)) sizes) (length-size_lines kind (number + 1) sizes)

@@ -1,5 +1,5 @@
 use Rattle.std.proofs.Common.{arith, length-append}
-use Rattle.script_cmds.specs.Line as line
+use Rattle.script_cmds.specs.declared.kind.LineKind.TheVariants as line
 use Rattle.script_cmds.specs.Text.{size_lines}
 use Rattle.script_plan.proofs.Counting.{length-size_lines}
 use Rattle.script_plan.proofs.count.configuration_lines.Goals as goal
