@@ -6,11 +6,15 @@
 mod addresses;
 mod fields;
 mod forms;
+mod frames;
+mod runs;
 mod values;
 mod walks;
 
 pub use addresses::example_addresses;
 pub use fields::Fields;
 pub use forms::{example_forms, forms_are_encodings};
+pub use frames::SavedFrame;
+pub use runs::example_runs;
 pub use values::{laws_of_values, values_by_example};
 pub use walks::{code_ends_at_the_bad_place, example_walks};
