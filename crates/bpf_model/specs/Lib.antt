@@ -1,5 +1,6 @@
 pub mod Address
 pub mod Encoding
+pub mod Examples
 pub mod Form
 pub mod Machine
 pub mod Memory
