@@ -1,8 +1,9 @@
 -- The checks of every command, each list in the order in which they are made, over whole numbers: no
 -- sum or product wraps. Source: the NVMe command sets in outline; the checks, their order, the
 -- statuses and the limits are this project's own.
-use Rattle.std.specs.Prelude.{ℕ, ◌+◌, ◌*◌, ◌%◌, ◌==◌, nat_lt, nat_le, Bool, true, false, not, ◌&&◌, ◌||◌, List, [], ◌∷◌, ◌++◌, Option, Some, unwrap_or, is_none, is_some, length, map, sum_by, option_map}
+use Rattle.std.specs.Prelude.{ℕ, ◌+◌, ◌*◌, ◌%◌, ◌==◌, nat_lt, nat_le, Bool, true, false, not, ◌&&◌, ◌||◌, if◌then◌else◌, List, [], ◌∷◌, ◌++◌, Option, Some, None, unwrap_or, is_none, is_some, length, map, sum_by, option_map}
 use Rattle.std.specs.List.{list_any, list_all}
+use Rattle.std.specs.Option.{option_or}
 use Rattle.cp_base.specs.Answer.{Answer, only_status}
 use Rattle.cp_base.specs.Checks.{Check, refuse, byte_checks, first_failing}
 use Rattle.cp_base.specs.Configuration.{Configuration, numbered, size_of}
@@ -16,6 +17,7 @@ use Rattle.cp_base.specs.declared.lists.MemRange.{MemRange}
 use Rattle.cp_base.specs.declared.commands.Command.{Command}
 use Rattle.cp_base.specs.declared.commands.Command.TheVariants as command
 use Rattle.cp_base.specs.declared.replies.Status.TheVariants as status
+use Rattle.bpf_model.specs.Walk.{bad_place, is_well_formed}
 use Rattle.device_model.specs.State.{State, Slot, Holding, slot_at, set_at}
 
 -- the most bytes that a host moves by one command
@@ -151,6 +153,16 @@ checks_of c s (command.Activate slot) = activate_checks (slot_at s slot)
 checks_of c s (command.Deactivate slot) = deactivate_checks (slot_at s slot)
 checks_of c s (command.Execute slot set p1 p2 budget) = execute_checks c (slot_at s slot) (set_at s set) budget
 
--- the answer of the first check that fails, where one does
+-- the bytes of a slot's program; a byte that is missing counts as 0
+abbrev pub code_of : Option Slot → List ℕ
+code_of slot = map (λ (byte : Option ℕ). unwrap_or byte 0) (slot_bytes slot)
+
+-- the check of a program that is to be active: it is told with the first place that has no instruction
+abbrev pub program_refusal : Option Slot → Option Answer
+program_refusal slot =
+    if is_well_formed (code_of slot) then None else Some (record { status = status.BadProgram; result = bad_place (code_of slot); bytes = [] })
+
+-- the answer of the first check that fails, where one does; that of the program comes last
 abbrev pub refusal_of : Configuration → State → Command → Option Answer
+refusal_of c s (command.Activate slot) = option_or (option_map only_status (first_failing (activate_checks (slot_at s slot)))) (program_refusal (slot_at s slot))
 refusal_of c s cmd = option_map only_status (first_failing (checks_of c s cmd))

@@ -1,7 +1,7 @@
 -- What a command does that passes its checks. Source: the NVMe command sets in outline; the details are
 -- this project's own.
 use Rattle.std.specs.Prelude.{ℕ, ◌*◌, true, false, List, [], Option, Some, None, unwrap_or, map, replicate, slice_get, if◌then◌else◌}
-use Rattle.cp_base.specs.Answer.{Answer, only_status}
+use Rattle.cp_base.specs.Answer.{only_status}
 use Rattle.cp_base.specs.Configuration.{Configuration}
 use Rattle.cp_base.specs.Contents.{bytes_in, put, joined}
 use Rattle.cp_base.specs.declared.region.SpaceId.{SpaceId}
@@ -12,12 +12,8 @@ use Rattle.cp_base.specs.declared.commands.Command.{Command}
 use Rattle.cp_base.specs.declared.commands.Command.TheVariants as command
 use Rattle.cp_base.specs.declared.replies.Status.TheVariants as status
 use Rattle.device_model.specs.Checks.{source_region, is_empty_slot, slot_bytes}
-use Rattle.device_model.specs.State.{State, Slot, Empty, Holding, slot_at, with_slot, free_numbers, with_set, without_set}
-
--- an answer, and the state after it
-pub record Outcome : Type 0 where
-  pub answer : Answer
-  pub next : State
+use Rattle.device_model.specs.Execution.{Outcome, executed, tells}
+use Rattle.device_model.specs.State.{State, Slot, Empty, Holding, set_at, slot_at, with_slot, free_numbers, with_set, without_set}
 
 -- done, with this state after it
 abbrev pub done : State → Outcome
@@ -35,22 +31,22 @@ wrote s space start bytes = done (record s { contents = put s.contents space sta
 abbrev pub begun : Option Slot → ℕ → List (Option ℕ)
 begun slot size = if is_empty_slot slot then replicate size None else slot_bytes slot
 
--- what a command that passes its checks answers and leaves; an execution has its case with the machine
-abbrev pub effect_of : Configuration → State → Command → Option Outcome
-effect_of c s (command.NvmRead ns lba count) = Some (read s (record { space = space.Nvm ns; start = lba * c.block; len = count * c.block }))
-effect_of c s (command.NvmWrite ns lba bytes) = Some (wrote s (space.Nvm ns) (lba * c.block) bytes.items)
-effect_of c s (command.NvmZeroes ns lba count) = Some (wrote s (space.Nvm ns) (lba * c.block) (replicate (count * c.block) 0))
-effect_of c s (command.NvmCopy ns lba from) = Some (wrote s (space.Nvm ns) (lba * c.block) (joined s.contents (map (source_region c) from)))
-effect_of c s (command.MemRead ns at len) = Some (read s (record { space = space.Mem ns; start = at; len = len }))
-effect_of c s (command.MemWrite ns at bytes) = Some (wrote s (space.Mem ns) at bytes.items)
-effect_of c s (command.MemFill ns at len value) = Some (wrote s (space.Mem ns) at (replicate len value))
-effect_of c s (command.MemCopy ns at from) = Some (wrote s (space.Mem ns) at (joined s.contents (map (source_region c) from)))
+-- what a command that passes its checks answers and leaves
+abbrev pub effect_of : Configuration → State → Command → Outcome
+effect_of c s (command.NvmRead ns lba count) = read s (record { space = space.Nvm ns; start = lba * c.block; len = count * c.block })
+effect_of c s (command.NvmWrite ns lba bytes) = wrote s (space.Nvm ns) (lba * c.block) bytes.items
+effect_of c s (command.NvmZeroes ns lba count) = wrote s (space.Nvm ns) (lba * c.block) (replicate (count * c.block) 0)
+effect_of c s (command.NvmCopy ns lba from) = wrote s (space.Nvm ns) (lba * c.block) (joined s.contents (map (source_region c) from))
+effect_of c s (command.MemRead ns at len) = read s (record { space = space.Mem ns; start = at; len = len })
+effect_of c s (command.MemWrite ns at bytes) = wrote s (space.Mem ns) at bytes.items
+effect_of c s (command.MemFill ns at len value) = wrote s (space.Mem ns) at (replicate len value)
+effect_of c s (command.MemCopy ns at from) = wrote s (space.Mem ns) at (joined s.contents (map (source_region c) from))
 effect_of c s (command.SetCreate ranges) =
     let number : ℕ = unwrap_or (slice_get (free_numbers s) 0) 0 in
-    Some (record { answer = record { status = status.Ok; result = number; bytes = [] }; next = record s { sets = with_set s.sets (record { number = number; ranges = ranges }) } })
-effect_of c s (command.SetDelete set) = Some (done (record s { sets = without_set s.sets set }))
-effect_of c s (command.Load slot size at bytes) = Some (done (with_slot s slot (Holding (patched (begun (slot_at s slot) size) at (map (λ byte. Some byte) bytes.items)) false)))
-effect_of c s (command.Unload slot) = Some (done (with_slot s slot Empty))
-effect_of c s (command.Activate slot) = Some (done (with_slot s slot (Holding (slot_bytes (slot_at s slot)) true)))
-effect_of c s (command.Deactivate slot) = Some (done (with_slot s slot (Holding (slot_bytes (slot_at s slot)) false)))
-effect_of c s (command.Execute slot set p1 p2 budget) = None
+    record { answer = tells status.Ok number; next = record s { sets = with_set s.sets (record { number = number; ranges = ranges }) } }
+effect_of c s (command.SetDelete set) = done (record s { sets = without_set s.sets set })
+effect_of c s (command.Load slot size at bytes) = done (with_slot s slot (Holding (patched (begun (slot_at s slot) size) at (map (λ byte. Some byte) bytes.items)) false))
+effect_of c s (command.Unload slot) = done (with_slot s slot Empty)
+effect_of c s (command.Activate slot) = done (with_slot s slot (Holding (slot_bytes (slot_at s slot)) true))
+effect_of c s (command.Deactivate slot) = done (with_slot s slot (Holding (slot_bytes (slot_at s slot)) false))
+effect_of c s (command.Execute slot set p1 p2 budget) = executed s (slot_at s slot) (set_at s set) p1 p2 budget

@@ -1,5 +1,5 @@
 -- A small device and what it answers, for worked examples. This project's own.
-use Rattle.std.specs.Prelude.{ℕ, List, [], ◌∷◌, Option, Some, None, map, replicate, take, drop}
+use Rattle.std.specs.Prelude.{ℕ, List, [], ◌∷◌, ◌++◌, length, map, replicate, take, drop}
 use Rattle.cp_base.specs.Answer.{Answer}
 use Rattle.cp_base.specs.Configuration.{Configuration}
 use Rattle.cp_base.specs.Contents.{bytes_of}
@@ -10,7 +10,7 @@ use Rattle.cp_base.specs.declared.lists.CopySource.TheVariants as source
 use Rattle.cp_base.specs.declared.lists.MemRange.{MemRange}
 use Rattle.cp_base.specs.declared.region.SpaceId.TheVariants as space
 use Rattle.cp_base.specs.declared.replies.Status.{Status}
-use Rattle.device_model.specs.Effect.{Outcome}
+use Rattle.device_model.specs.Execution.{Outcome}
 use Rattle.device_model.specs.State.{State, opening}
 use Rattle.device_model.specs.Step.{outcome_of}
 
@@ -38,13 +38,12 @@ pub record Told : Type 0 where
 abbrev pub and_then : Outcome → Told → Told
 and_then outcome rest = record { answers = outcome.answer ∷ rest.answers; state = rest.state }
 
-abbrev pub told_by : State → Option Outcome → (State → Told) → Told
-told_by s None more = record { answers = []; state = s }
-told_by s (Some outcome) more = and_then outcome (more outcome.next)
+abbrev pub told_by : Outcome → (State → Told) → Told
+told_by outcome more = and_then outcome (more outcome.next)
 
 abbrev pub told : State → List Command → Told
 told s [] = record { answers = []; state = s }
-told s (cmd ∷ cmds) = told_by s (outcome_of small s cmd) (λ next. told next cmds)
+told s (cmd ∷ cmds) = told_by (outcome_of small s cmd) (λ next. told next cmds)
 
 -- the statuses of commands on the small device, from its opening state on
 abbrev pub statuses : List Command → List Status
@@ -57,3 +56,18 @@ results cmds = map (λ (answer : Answer). answer.result) (told (opening small) c
 -- len bytes from place at on of its memory, after these commands
 abbrev pub shown_after : List Command → ℕ → ℕ → List ℕ
 shown_after cmds at len = take len (drop at (bytes_of (told (opening small) cmds).state.contents (space.Mem 1)))
+
+-- a set of all the memory, and a program that is loaded into slot 0, made active and executed with this budget
+abbrev pub executes : List ℕ → ℕ → List Command
+executes code budget =
+    command.SetCreate (range 0 16 ∷ []) ∷ load 0 (length code) 0 code ∷ command.Activate 0 ∷ command.Execute 0 1 0 0 budget ∷ []
+
+-- R0 is set to 7; the exit
+abbrev pub exits_with_7 : List ℕ
+exits_with_7 = (183 ∷ 0 ∷ 0 ∷ 0 ∷ 7 ∷ 0 ∷ 0 ∷ 0 ∷ []) ++ (149 ∷ 0 ∷ 0 ∷ 0 ∷ 0 ∷ 0 ∷ 0 ∷ 0 ∷ [])
+
+-- R1 is set to the address of the range; a byte is stored there, and one behind the range
+abbrev pub stores_past_the_end : List ℕ
+stores_past_the_end =
+    (24 ∷ 1 ∷ 0 ∷ 0 ∷ 0 ∷ 0 ∷ 0 ∷ 0 ∷ []) ++ (0 ∷ 0 ∷ 0 ∷ 0 ∷ 1 ∷ 0 ∷ 0 ∷ 0 ∷ [])
+    ++ (114 ∷ 1 ∷ 0 ∷ 0 ∷ 85 ∷ 0 ∷ 0 ∷ 0 ∷ []) ++ (114 ∷ 1 ∷ 16 ∷ 0 ∷ 85 ∷ 0 ∷ 0 ∷ 0 ∷ [])

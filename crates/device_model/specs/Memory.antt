@@ -1,9 +1,10 @@
 -- Which command takes memory, and so may be answered that there is none. This project's own.
 use Rattle.std.specs.Prelude.{Bool, true, false, ◌&&◌, is_none}
+use Rattle.cp_base.specs.Checks.{first_failing}
 use Rattle.cp_base.specs.Configuration.{Configuration}
 use Rattle.cp_base.specs.declared.commands.Command.{Command}
 use Rattle.cp_base.specs.declared.commands.Command.TheVariants as command
-use Rattle.device_model.specs.Checks.{refusal_of}
+use Rattle.device_model.specs.Checks.{checks_of}
 use Rattle.device_model.specs.State.{State}
 
 -- whether a command reads or writes bytes of namespaces
@@ -22,6 +23,7 @@ may_take_memory (command.Load slot size at bytes) = true
 may_take_memory (command.Activate slot) = true
 may_take_memory cmd = moves_bytes cmd
 
--- whether a command takes memory in a state
+-- whether a command takes memory in a state: it passes its checks, of which that of a program itself is
+-- made with memory
 abbrev pub takes_memory : Configuration → State → Command → Bool
-takes_memory c s cmd = may_take_memory cmd && is_none (refusal_of c s cmd)
+takes_memory c s cmd = may_take_memory cmd && is_none (first_failing (checks_of c s cmd))

@@ -6,17 +6,18 @@ use Rattle.cp_base.specs.Configuration.{Configuration}
 use Rattle.cp_base.specs.declared.commands.Command.{Command}
 use Rattle.cp_base.specs.declared.replies.Status.TheVariants as status
 use Rattle.device_model.specs.Checks.{refusal_of}
-use Rattle.device_model.specs.Effect.{Outcome, effect_of}
+use Rattle.device_model.specs.Effect.{effect_of}
+use Rattle.device_model.specs.Execution.{Outcome}
 use Rattle.device_model.specs.Memory.{takes_memory}
 use Rattle.device_model.specs.State.{State}
 
 -- the refusal, which leaves the state, or else the effect
-abbrev pub refused_or_done : State → Option Answer → Option Outcome → Option Outcome
-refused_or_done s (Some answer) effect = Some (record { answer = answer; next = s })
+abbrev pub refused_or_done : State → Option Answer → Outcome → Outcome
+refused_or_done s (Some answer) effect = record { answer = answer; next = s }
 refused_or_done s None effect = effect
 
 -- what the device answers to a command in a state, and the state after it, where there is memory
-abbrev pub outcome_of : Configuration → State → Command → Option Outcome
+abbrev pub outcome_of : Configuration → State → Command → Outcome
 outcome_of c s cmd = refused_or_done s (refusal_of c s cmd) (effect_of c s cmd)
 
 -- a command that takes memory finds none: nothing is changed
@@ -27,4 +28,4 @@ pub record FindsNoMemory (c : Configuration) (s : State) (cmd : Command) (answer
 
 -- the device may answer so to the command, and go on to the next state
 abbrev pub DeviceStep : Configuration → State → Command → Answer → State → Type 0
-DeviceStep c s cmd answer next = (outcome_of c s cmd ≡ Some (record { answer = answer; next = next })) ⊎ FindsNoMemory c s cmd answer next
+DeviceStep c s cmd answer next = (outcome_of c s cmd ≡ record { answer = answer; next = next }) ⊎ FindsNoMemory c s cmd answer next

@@ -1,6 +1,6 @@
 // Worked examples of the definitions. The functions do nothing: what they ensure is what is proved.
-ghost use Rattle.std.specs.Prelude.{◌≡◌, ◌∷◌, []};
-ghost use Rattle.device_model.specs.Examples.{from_memory, load, range, results, shown_after, statuses, write};
+ghost use Rattle.std.specs.Prelude.{◌≡◌, ◌∷◌, ◌++◌, []};
+ghost use Rattle.device_model.specs.Examples.{executes, exits_with_7, from_memory, load, range, results, shown_after, statuses, stores_past_the_end, write};
 
 use cp_base::{Command, Status};
 
@@ -44,6 +44,20 @@ pub fn slots_by_example()
         ∷ Command.Activate 3
         ∷ load 3 16 0 (183 ∷ 0 ∷ 0 ∷ 0 ∷ 7 ∷ 0 ∷ 0 ∷ 0 ∷ [])
         ∷ load 3 16 0 (183 ∷ 0 ∷ 0 ∷ 0 ∷ 7 ∷ 0 ∷ 0 ∷ 0 ∷ [])
-        ∷ Command.Deactivate 3 ∷ [])
-        ≡ Status.Ok ∷ Status.PieceOverlap ∷ Status.SizeDiffers ∷ Status.SlotPartial ∷ Status.Ok ∷ Status.SlotComplete ∷ Status.SlotInactive ∷ [] }
+        ∷ Command.Deactivate 3 ∷ Command.Activate 3 ∷ Command.Unload 3 ∷ [])
+        ≡ Status.Ok ∷ Status.PieceOverlap ∷ Status.SizeDiffers ∷ Status.SlotPartial ∷ Status.Ok ∷ Status.SlotComplete ∷ Status.SlotInactive
+        ∷ Status.Ok ∷ Status.SlotActive ∷ [] }
+    ensures bad_program { statuses (load 0 8 0 (255 ∷ 0 ∷ 0 ∷ 0 ∷ 0 ∷ 0 ∷ 0 ∷ 0 ∷ []) ∷ Command.Activate 0 ∷ []) ≡ Status.Ok ∷ Status.BadProgram ∷ [] }
+    ensures bad_place { results (load 0 16 0 ((183 ∷ 0 ∷ 0 ∷ 0 ∷ 1 ∷ 0 ∷ 0 ∷ 0 ∷ []) ++ (24 ∷ 0 ∷ 0 ∷ 0 ∷ 0 ∷ 0 ∷ 0 ∷ 0 ∷ []))
+        ∷ Command.Activate 0 ∷ []) ≡ 0 ∷ 1 ∷ [] }
+{}
+
+/// Executions of small programs on a memory of 16 bytes.
+pub fn executions_by_example()
+    ensures exit { results (executes exits_with_7 2) ≡ 1 ∷ 0 ∷ 0 ∷ 7 ∷ [] }
+    ensures spent { statuses (executes exits_with_7 1) ≡ Status.Ok ∷ Status.Ok ∷ Status.Ok ∷ Status.BudgetSpent ∷ [] }
+    ensures budget { statuses (executes exits_with_7 1001) ≡ Status.Ok ∷ Status.Ok ∷ Status.Ok ∷ Status.BudgetRange ∷ [] }
+    ensures fault { statuses (executes stores_past_the_end 10) ≡ Status.Ok ∷ Status.Ok ∷ Status.Ok ∷ Status.BadAccess ∷ [] }
+    ensures place { results (executes stores_past_the_end 10) ≡ 1 ∷ 0 ∷ 0 ∷ 3 ∷ [] }
+    ensures kept { shown_after (executes stores_past_the_end 10) 0 2 ≡ 85 ∷ 0 ∷ [] }
 {}

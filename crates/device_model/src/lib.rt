@@ -3,4 +3,6 @@
 
 mod examples;
 
-pub use examples::{copies_by_example, sets_by_example, slots_by_example, writes_by_example};
+pub use examples::{
+    copies_by_example, executions_by_example, sets_by_example, slots_by_example, writes_by_example,
+};

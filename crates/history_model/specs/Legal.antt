@@ -1,21 +1,15 @@
 -- Legal histories: what a device that carries out one command after the other may have answered. This
 -- project's own; that the commands of a queue may be carried out in any order is NVMe's (Base
 -- Specification, command ordering).
-use Rattle.std.specs.Prelude.{List, [], ◌∷◌, Option, Some, None, AllPairs, IsPermutation, map}
+use Rattle.std.specs.Prelude.{List, [], ◌∷◌, AllPairs, IsPermutation, map}
 use Rattle.cp_base.specs.Configuration.{Configuration}
 use Rattle.cp_base.specs.declared.replies.Status.{Status}
 use Rattle.cp_base.specs.declared.replies.Status.TheVariants as status
 use Rattle.script_cmds.specs.declared.item.Phase.{Phase}
-use Rattle.device_model.specs.Effect.{Outcome}
 use Rattle.device_model.specs.State.{State, opening}
 use Rattle.device_model.specs.Step.{DeviceStep, outcome_of}
 use Rattle.history_model.specs.Entry.{Entry}
 use Rattle.history_model.specs.Sent.{TakenBefore, sends_of}
-
--- the state that an outcome leaves; the old one where there is none
-abbrev pub next_of : State → Option Outcome → State
-next_of s None = s
-next_of s (Some outcome) = outcome.next
 
 -- the state after a command that was answered with this status: a command that found no memory changed
 -- nothing
@@ -25,7 +19,7 @@ after_status old new _ = new
 
 -- the state after an entry
 abbrev pub after_entry : Configuration → State → Entry → State
-after_entry c s entry = after_status s (next_of s (outcome_of c s entry.sent.command)) entry.answer.status
+after_entry c s entry = after_status s (outcome_of c s entry.sent.command).next entry.answer.status
 
 -- the state after a history
 abbrev pub after_history : Configuration → State → List Entry → State
