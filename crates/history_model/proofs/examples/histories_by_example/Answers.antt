@@ -1,8 +1,8 @@
-use Rattle.std.proofs.Common.{◌≡◌, inl, inr, ℕ, [], ◌∷◌, refl, ap, arith, Option, Some, None, length}
+use Rattle.std.proofs.Common.{◌≡◌, inl, inr, ℕ, [], ◌∷◌, refl, ap, arith, length}
 use Rattle.std.proofs.lemmas.List.Sorted.{IsPermutation-refl, IsPermutation-swap}
 use Rattle.std.specs.Prelude.{slice_index}
 use Rattle.cp_base.specs.Answer.{Answer}
-use Rattle.device_model.specs.Effect.{Outcome}
+use Rattle.device_model.specs.Execution.{Outcome}
 use Rattle.device_model.specs.State.{State, opening}
 use Rattle.device_model.specs.Step.{DeviceStep}
 use Rattle.history_model.specs.Entry.{Entry}
@@ -36,9 +36,8 @@ returns-clause-look_first c = λ shared. record {
 }
 
 -- the first byte of an answer
-first_byte : Option Outcome → ℕ
-first_byte None = 0
-first_byte (Some outcome) = slice_index outcome.answer.bytes 0
+first_byte : Outcome → ℕ
+first_byte outcome = slice_index outcome.answer.bytes 0
 
 -- in the opening state nothing else than zeros is read
 reads-zeros : (next : State) → DeviceStep (small_device 1) (opening (small_device 1)) look (answered looked (7 ∷ 7 ∷ [])).answer next → ⊥
