@@ -159,6 +159,18 @@ newlines_after text after =
     let one : newlines (10 ∷ []) ≡ 1 = refl in
     omega arith
 
+-- a text of lines has a newline for each of them
+few_lines : (lines : List Line) → length lines ≤ newlines (lines_text lines)
+few_lines [] = omega arith
+few_lines (l ∷ ls) = omega (arith, newlines_after (line_text l) (lines_text ls), few_lines ls)
+
+pub few_of_text : (lines read : List Line) (rest text : List ℕ) (most : ℕ) → lines ≡ read → lines_text read ++ rest ≡ text → newlines text ≤ most → length lines ≤ most
+few_of_text lines read rest text most same whole few =
+    let parts : newlines (lines_text read ++ rest) ≡ newlines (lines_text read) + newlines rest = sum_by-append (λ (b : ℕ). cond (eqb b 10) 1 0) (lines_text read) rest in
+    let all : newlines (lines_text read ++ rest) ≡ newlines text = ap newlines whole in
+    let len : length lines ≡ length read = ap (length {A = Line}) same in
+    omega (arith, few_lines read)
+
 -- ---- one line more of a whole text
 
 pub text_goes_on : (old new : List ℕ) (text rest after whole : List ℕ) → new ≡ old ++ (text ++ 10 ∷ []) → rest ≡ text ++ 10 ∷ after → old ++ rest ≡ whole → new ++ after ≡ whole

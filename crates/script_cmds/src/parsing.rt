@@ -1,12 +1,12 @@
 // A whole script, read from its text.
-ghost use Rattle.std.specs.Prelude.{◌≡◌, ◌≤◌, ◌++◌, ◌∷◌, [], Ok, None, IsTrue, IfOk, IfErr, IfSome, OnOk, MatchOption};
+ghost use Rattle.std.specs.Prelude.{◌≡◌, ◌≤◌, ◌++◌, ◌∷◌, [], Ok, None, IsTrue, IfOk, IfErr, IfSome, OnOk, MatchOption, length};
 ghost use Rattle.script_cmds.specs.Drafts.{IsDraft, draft_lines, newlines};
 ghost use Rattle.script_cmds.specs.Fault.{first_fault, read_line};
 ghost use Rattle.script_cmds.specs.Kept.{KeepsOrderAndLimits, are_built};
 ghost use Rattle.script_cmds.specs.Field.{parts_between};
 ghost use Rattle.script_cmds.specs.Ends.{Faults, Tells};
 ghost use Rattle.script_cmds.specs.declared.fault.ParseEnd.TheVariants as end;
-ghost use Rattle.script_cmds.specs.Text.{lines_text, script_text};
+ghost use Rattle.script_cmds.specs.Text.{lines_of, lines_text, script_text};
 
 use crate::draft::Draft;
 use crate::fault::LineEnd;
@@ -18,13 +18,15 @@ use std::alloc::Global;
 /// The script that a text spells. There is one exactly where no line of the text is faulty; else the
 /// first faulty line is told, with its first cause. `NoMemory` where memory is wanting.
 ///
-/// Lines are counted in 32 bits, so a newline stands at most 4,294,967,294 times in the text.
+/// Lines are counted in 32 bits, so a newline stands at most 4,294,967,294 times in the text, and the
+/// script has no more lines than that.
 pub fn parse(alloc: Global, text: &Bytes) -> Result<Script, ParseEnd>
     requires { newlines text.now.items ≤ 4294967294 }
     ensures text { IfOk result (λ script. script_text script ≡ text.now.items) }
     ensures accepted { OnOk result (first_fault text.now.items ≡ None) }
     ensures order_and_limits { IfOk result KeepsOrderAndLimits }
     ensures built { IfOk result (λ script. IsTrue (are_built script)) }
+    ensures lines { IfOk result (λ script. length (lines_of script) ≤ 4294967294) }
     ensures fault { IfErr result (λ end. Tells end (first_fault text.now.items)) }
 {
     let mut draft = Draft::new(alloc);
