@@ -1,3 +1,9 @@
+pub mod BuiltSends
+pub mod Counts
 pub mod Fronts
 pub mod Inputs
-pub mod OneWrite
+pub mod Legal
+pub mod Printed
+pub mod Shows
+pub mod Steps
+pub mod Written

@@ -1,5 +1,8 @@
-pub mod Found
+pub mod Finished
 pub mod Input
+pub mod Lines
+pub mod Place
+pub mod Refusal
 pub mod Run
-pub mod Single
+pub mod Shown
 pub mod Words

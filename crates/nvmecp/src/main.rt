@@ -1,9 +1,10 @@
 //! The program: one device that hosts share, run from a script of what the hosts do.
 #![tactic(auto)]
 
-mod carrying;
+mod in_order;
+mod printing;
+mod refusing;
 mod run;
-mod single;
 #[cfg(test)]
 mod tests;
 mod words;

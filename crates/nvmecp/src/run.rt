@@ -1,19 +1,27 @@
 // A run of the program: words, reading, parsing, carrying out and printing, in this order.
-ghost use Rattle.std.specs.Prelude.{◌≡◌, ℕ, ◌≤◌, ◌⊎◌, ◌↔◌, List, Some, None, length, map};
+ghost use Rattle.std.specs.Prelude.{◌≡◌, ℕ, ◌≤◌, ◌⊎◌, ◌↔◌, List, Some, None, Ok, IsTrue, length, map};
 ghost use Rattle.std.specs.String.{string_bytes};
 ghost use Rattle.std.specs.Io.KnownBytes.{Appends};
 ghost use Rattle.cp_io.specs.Counting.{Rose};
 ghost use Rattle.cp_io.specs.Sink.{AppendsFront};
-ghost use Rattle.nvmecp.specs.Input.{Accepts, IsHistory, IsRefusal, Rejects, max_input};
+ghost use Rattle.script_cmds.specs.Kept.{KeepsOrderAndLimits, are_built};
+ghost use Rattle.history_model.specs.Plain.{plain_phase, plain_phases};
+ghost use Rattle.history_model.specs.Plan.{plan_of};
+ghost use Rattle.history_model.specs.Sent.{sends_of};
+ghost use Rattle.script_plan.specs.Meant.{meant};
+ghost use Rattle.nvmecp.specs.Input.{Accepts, IsHistory, IsPrintOf, IsRefusal, Rejects, max_input};
+ghost use Rattle.nvmecp.specs.Refusal.{refusal_line};
 ghost use Rattle.nvmecp.specs.Run.{Done, IsCutShort, IsDue, IsRefused, NoFault, Writes, WritesFront};
 ghost use Rattle.nvmecp.specs.Words.{choices_of};
 
-use crate::carrying::{carry_out, print};
-use crate::single::single_write;
+use crate::in_order::finish;
+use crate::printing::print;
+use crate::refusing::{breach_name, cause_name, refusal};
 use crate::words::choices;
 use cp_base::{Bytes, NoMemory};
 use cp_io::{ReadEnd, Sink, Source, read_all, write_all};
-use script_cmds::{ParseEnd, parse};
+use script_cmds::{ParseEnd, Script, parse};
+use script_plan::{Plan, PlanEnd, plan};
 use std::alloc::Global;
 
 /// Done: the whole text is written.
@@ -45,6 +53,45 @@ fn refuse<K: Sink>(sink: &mut K, line: &[u8]) -> u8
     }
 }
 
+// Tells a line of the input and what is wrong with it.
+fn refuse_line<K: Sink>(alloc: Global, sink: &mut K, line: u32, name: &str) -> u8
+    ensures status { (result ≡ 2) ⊎ (result ≡ 4) ⊎ (result ≡ 5) }
+    ensures refused { result ≡ 2 → Appends (K.held sink.old) (K.held sink.new) (refusal_line line name.now) }
+    ensures front { result ≡ 4 → AppendsFront (K.held sink.old) (K.held sink.new) (refusal_line line name.now) }
+    ensures fault { result ≡ 4 → Rose (K.faults sink.old) (K.faults sink.new) }
+    ensures no_memory { result ≡ 5 → sink.new ≡ sink.old }
+{
+    match refusal(alloc, line, name) {
+        Ok(text) => refuse(sink, text.as_slice()),
+        Err(NoMemory) => NO_MEMORY,
+    }
+}
+
+// Carries out a plan and prints its history.
+fn carry_out<K: Sink>(alloc: Global, script: &Script, plan: &Plan, sink: &mut K) -> u8
+    requires commands { plan.now.commands ≡ length (sends_of plan.now.phases) }
+    requires sends { sends_of plan.now.phases ≡ sends_of script.now.phases }
+    requires planned { meant plain_phase (plan_of script.now) ≡ Ok (plain_phases plan.now.phases) }
+    requires given { (given : _) → plan_of script.now ≡ Ok given → sends_of given ≡ sends_of plan.now.phases }
+    requires built { IsTrue (are_built script.now) }
+    requires kept { KeepsOrderAndLimits script.now }
+    ensures status { (result ≡ 0) ⊎ (result ≡ 4) ⊎ (result ≡ 5) }
+    ensures done { result ≡ 0 → Writes (IsPrintOf script.now) (K.held sink.old) (K.held sink.new) }
+    ensures cut_short { result ≡ 4 → WritesFront (IsPrintOf script.now) (K.held sink.old) (K.held sink.new) }
+    ensures write_fault { result ≡ 4 → Rose (K.faults sink.old) (K.faults sink.new) }
+    ensures no_memory { result ≡ 5 → sink.new ≡ sink.old }
+{
+    // Called for its clause that a configuration keeps the limits.
+    let _depth = script.config.depth();
+    match finish(alloc, &script.config, plan) {
+        Ok(finished) => match print(sink, finished, script.shows.as_slice()) {
+            Ok(()) => DONE,
+            Err(_) => WRITE_FAULT,
+        },
+        Err(NoMemory) => NO_MEMORY,
+    }
+}
+
 // Answers an input that was read whole.
 fn answer<K: Sink>(alloc: Global, input: &Bytes, sink: &mut K) -> u8
     requires { length input.now.items ≤ max_input }
@@ -59,19 +106,19 @@ fn answer<K: Sink>(alloc: Global, input: &Bytes, sink: &mut K) -> u8
 {
     let script = match parse(alloc, input) {
         Ok(script) => script,
+        Err(ParseEnd::Fault(fault)) => {
+            return refuse_line(alloc, sink, fault.line, cause_name(fault.cause));
+        }
         Err(ParseEnd::NoMemory) => return NO_MEMORY,
-        Err(ParseEnd::Fault(_)) => return refuse(sink, b"line 1: Word\n"),
     };
-    let Some(found) = single_write(&script) else {
-        return refuse(sink, b"line 1: Word\n");
+    let plan = match plan(alloc, &script) {
+        Ok(plan) => plan,
+        Err(PlanEnd::Fault(fault)) => {
+            return refuse_line(alloc, sink, fault.line, breach_name(fault.cause));
+        }
+        Err(PlanEnd::NoMemory) => return NO_MEMORY,
     };
-    match carry_out(alloc, &script, &found) {
-        Ok(lines) => match print(sink, &lines) {
-            Ok(()) => DONE,
-            Err(_) => WRITE_FAULT,
-        },
-        Err(NoMemory) => NO_MEMORY,
-    }
+    carry_out(alloc, &script, &plan, sink)
 }
 
 // Reads an input and answers it.

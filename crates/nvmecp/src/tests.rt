@@ -46,45 +46,202 @@ fn step(alloc: Global, input: &str, output: &str) -> Option<(u8, bool)> {
     Some((status, sink.held() == output.as_bytes()))
 }
 
+// What an input gives: the status, and the text that is written.
+const CASES: [(&str, u8, &str); 26] = [
+    (
+        WRITE,
+        0,
+        "#1 h1 n1 c1 memwrite Ok r=0 d=\nshow mem 1 at=0 len=4 d=01020000\n",
+    ),
+    (
+        "nvmecp 1 block=512 depth=16 budget=1000\nmem 1 bytes=16\nphase\nhost 1\nsend 1 memwrite ns=1 at=16 data=01\nshow mem 1 at=0 len=4\n",
+        0,
+        "#1 h1 n1 c1 memwrite OutOfRange r=0 d=\nshow mem 1 at=0 len=4 d=00000000\n",
+    ),
+    (
+        "nvmecp 1 block=512 depth=16 budget=1000\nmem 1 bytes=16\nphase\nhost 1\nsend 1 memwrite ns=1 at=15 data=01\nshow mem 1 at=12 len=4\n",
+        0,
+        "#1 h1 n1 c1 memwrite Ok r=0 d=\nshow mem 1 at=12 len=4 d=00000001\n",
+    ),
+    (
+        "nvmecp 1 block=512 depth=16 budget=1000\nmem 1 bytes=16\nphase\nhost 1\nsend 1 memwrite ns=1 at=18446744073709551615 data=01\nshow mem 1 at=0 len=4\n",
+        0,
+        "#1 h1 n1 c1 memwrite OutOfRange r=0 d=\nshow mem 1 at=0 len=4 d=00000000\n",
+    ),
+    (
+        "nvmecp 1 block=512 depth=16 budget=1000\nmem 1 bytes=16\nphase\nhost 1\nsend 1 memwrite ns=2 at=0 data=01\nshow mem 1 at=0 len=4\n",
+        0,
+        "#1 h1 n1 c1 memwrite BadNamespace r=0 d=\nshow mem 1 at=0 len=4 d=00000000\n",
+    ),
+    // Two hosts in two phases: the second reads what both wrote.
+    (
+        "nvmecp 1 block=512 depth=16 budget=1000\nmem 1 bytes=16\nphase\nhost 1\nsend 1 memwrite ns=1 at=0 data=01\nhost 2\nsend 1 memwrite ns=1 at=1 data=02\nphase\nhost 2\nsend 1 memread ns=1 at=0 len=2\n",
+        0,
+        "#1 h1 n1 c1 memwrite Ok r=0 d=\n#2 h2 n1 c1 memwrite Ok r=0 d=\n#3 h2 n2 c1 memread Ok r=0 d=0102\n",
+    ),
+    // No host acts.
+    ("nvmecp 1 block=512 depth=16 budget=1000\n", 0, ""),
+    (
+        "nvmecp 1 block=512 depth=16 budget=1000\nmem 1 bytes=16\nshow mem 1 at=12 len=4\n",
+        0,
+        "show mem 1 at=12 len=4 d=00000000\n",
+    ),
+    // The bounds of a transfer.
+    (
+        "nvmecp 1 block=512 depth=16 budget=1000\nmem 1 bytes=16384\nphase\nhost 1\nsend 1 memread ns=1 at=0 len=0\nsend 2 memread ns=1 at=0 len=8193\nsend 3 memread ns=1 at=16383 len=1\nsend 4 memread ns=1 at=16383 len=2\n",
+        0,
+        "#1 h1 n1 c1 memread BadLength r=0 d=\n#2 h1 n2 c2 memread TooLong r=0 d=\n#3 h1 n3 c3 memread Ok r=0 d=00\n#4 h1 n4 c4 memread OutOfRange r=0 d=\n",
+    ),
+    // An identifier is used again after its command was taken.
+    (
+        "nvmecp 1 block=512 depth=1 budget=1\nmem 1 bytes=16\nphase\nhost 1\nsend 1 memwrite ns=1 at=0 data=01\ntake 1\nsend 1 memwrite ns=1 at=0 data=02\nshow mem 1 at=0 len=1\n",
+        0,
+        "#1 h1 n1 c1 memwrite Ok r=0 d=\n#2 h1 n2 c1 memwrite Ok r=0 d=\nshow mem 1 at=0 len=1 d=02\n",
+    ),
+    // Lines that are faulty by themselves, by their place or by a limit.
+    ("", 2, "line 1: Order\n"),
+    (
+        "nvmecp 1 block=513 depth=16 budget=1\n",
+        2,
+        "line 1: Limit\n",
+    ),
+    (
+        "nvmecp 1 block=0512 depth=16 budget=1\n",
+        2,
+        "line 1: Number\n",
+    ),
+    (
+        "nvmecp 2 block=512 depth=16 budget=1\n",
+        2,
+        "line 1: Field\n",
+    ),
+    (
+        "nvmecp 1 block=512 depth=16 budget=1000\nmem 1 bytes=16",
+        2,
+        "line 2: Word\n",
+    ),
+    (
+        "nvmecp 1 block=512 depth=16 budget=1000\n\n",
+        2,
+        "line 2: Word\n",
+    ),
+    (
+        "nvmecp 1 block=512 depth=16 budget=1000\nmem 2 bytes=16\nmem 1 bytes=8\n",
+        2,
+        "line 3: Order\n",
+    ),
+    (
+        "nvmecp 1 block=512 depth=16 budget=1000\nmem 1 bytes=16\nphase\nhost 1\nsend 1 memwrite ns=1 at=0 data=0A\nshow mem 1 at=0 len=4\n",
+        2,
+        "line 5: Hex\n",
+    ),
+    (
+        "nvmecp 1 block=512 depth=16 budget=1000\nmem 1 bytes=16\nshow mem 1 at=13 len=4\n",
+        2,
+        "line 3: Limit\n",
+    ),
+    // Lines that break a rule of queues.
+    (
+        "nvmecp 1 block=512 depth=1 budget=1\nmem 1 bytes=16\nphase\nhost 1\nsend 1 memwrite ns=1 at=0 data=01\nsend 2 memwrite ns=1 at=0 data=01\n",
+        2,
+        "line 6: QueueFull\n",
+    ),
+    (
+        "nvmecp 1 block=512 depth=2 budget=1\nmem 1 bytes=16\nphase\nhost 1\nsend 1 memread ns=1 at=0 len=1\nsend 2 memread ns=1 at=0 len=1\nsend 3 memread ns=1 at=0 len=1\n",
+        2,
+        "line 7: QueueFull\n",
+    ),
+    (
+        "nvmecp 1 block=512 depth=2 budget=1\nmem 1 bytes=16\nphase\nhost 1\nsend 1 memread ns=1 at=0 len=1\nsend 1 memread ns=1 at=0 len=1\n",
+        2,
+        "line 6: CidBusy\n",
+    ),
+    (
+        "nvmecp 1 block=512 depth=2 budget=1\nmem 1 bytes=16\nphase\nhost 1\ntake 5\n",
+        2,
+        "line 5: NotOutstanding\n",
+    ),
+    (
+        "nvmecp 1 block=512 depth=2 budget=1\nmem 1 bytes=16\nphase\n",
+        2,
+        "line 3: NoHosts\n",
+    ),
+    // A line that is faulty by itself is told before an earlier one that breaks a rule of queues.
+    (
+        "nvmecp 1 block=512 depth=1 budget=1\nmem 1 bytes=16\nphase\nhost 1\nsend 1 memread ns=1 at=0 len=1\nsend 2 memread ns=1 at=0 len=1\ntake 1\ntake x\n",
+        2,
+        "line 8: Number\n",
+    ),
+    // What is not built yet is no word.
+    (
+        "nvmecp 1 block=512 depth=1 budget=1\nnvm 1 blocks=8\n",
+        2,
+        "line 2: Word\n",
+    ),
+];
+
 #[test]
 fn scripts_give_their_texts(rt: HostRuntime) {
-    for (input, status, output) in [
-        (
-            WRITE,
-            0,
-            "#1 h1 n1 c1 memwrite Ok r=0 d=\nshow mem 1 at=0 len=4 d=01020000\n",
-        ),
-        (
-            "nvmecp 1 block=512 depth=16 budget=1000\nmem 1 bytes=16\nphase\nhost 1\nsend 1 memwrite ns=1 at=16 data=01\nshow mem 1 at=0 len=4\n",
-            0,
-            "#1 h1 n1 c1 memwrite OutOfRange r=0 d=\nshow mem 1 at=0 len=4 d=00000000\n",
-        ),
-        (
-            "nvmecp 1 block=512 depth=16 budget=1000\nmem 1 bytes=16\nphase\nhost 1\nsend 1 memwrite ns=1 at=15 data=01\nshow mem 1 at=12 len=4\n",
-            0,
-            "#1 h1 n1 c1 memwrite Ok r=0 d=\nshow mem 1 at=12 len=4 d=00000001\n",
-        ),
-        (
-            "nvmecp 1 block=512 depth=16 budget=1000\nmem 1 bytes=16\nphase\nhost 1\nsend 1 memwrite ns=1 at=18446744073709551615 data=01\nshow mem 1 at=0 len=4\n",
-            0,
-            "#1 h1 n1 c1 memwrite OutOfRange r=0 d=\nshow mem 1 at=0 len=4 d=00000000\n",
-        ),
-        (
-            "nvmecp 1 block=512 depth=16 budget=1000\nmem 1 bytes=16\nphase\nhost 1\nsend 1 memwrite ns=2 at=0 data=01\nshow mem 1 at=0 len=4\n",
-            0,
-            "#1 h1 n1 c1 memwrite BadNamespace r=0 d=\nshow mem 1 at=0 len=4 d=00000000\n",
-        ),
-        ("", 2, "line 1: Word\n"),
-        (
-            "nvmecp 1 block=512 depth=16 budget=1000\n",
-            2,
-            "line 1: Word\n",
-        ),
-    ] {
+    for (input, status, output) in CASES {
         assert_eq!(rt;
             step(rt.alloc(), input, output),
             Some((status, true)),
             "{input}"
+        );
+    }
+}
+
+// The status of a run on the lines that a function writes, and how many bytes the sink holds.
+fn long(alloc: Global, lines: String) -> Option<(u8, usize)> {
+    let mut source = source(alloc, lines.as_bytes(), 4096, &[])?;
+    let mut sink = sink(alloc, &[])?;
+    let status = ran(alloc, "step 1 0", &mut source, &mut sink)?;
+    Some((status, sink.held().len()))
+}
+
+// A script of one host with a write of so many bytes.
+fn write_of(alloc: Global, bytes: usize) -> Option<String> {
+    let data = "01".repeat(alloc, bytes).ok()?;
+    let head =
+        "nvmecp 1 block=512 depth=16 budget=1000\nmem 1 bytes=16384\nphase\nhost 1\nsend 1 memwrite ns=1 at=0 data=";
+    format!(in alloc; "{head}{data}\n").ok()
+}
+
+// A script of 16 hosts, each with a write.
+fn sixteen_hosts(alloc: Global) -> Option<String> {
+    let mut lines = String::from_str(
+        alloc,
+        "nvmecp 1 block=512 depth=1 budget=1\nmem 1 bytes=16\nphase\n",
+    )
+    .ok()?;
+    for host in 1..17 {
+        let part = format!(in alloc; "host {host}\nsend 1 memwrite ns=1 at=0 data=01\n").ok()?;
+        lines.push_str(part.as_str()).ok()?;
+    }
+    Some(lines)
+}
+
+// A script that shows 8,192 bytes 63 times.
+fn many_shows(alloc: Global) -> Option<String> {
+    let shows = "show mem 1 at=0 len=8192\n".repeat(alloc, 63).ok()?;
+    format!(in alloc; "nvmecp 1 block=512 depth=1 budget=1\nmem 1 bytes=8192\n{shows}").ok()
+}
+
+#[test]
+fn long_scripts_are_carried_out(rt: HostRuntime) {
+    let alloc = rt.alloc();
+    for (script, status, held) in [
+        // `#1 h1 n1 c1 memwrite Ok r=0 d=` and a newline; `TooLong` has five letters more.
+        (write_of(alloc, 8192), 0, 31),
+        (write_of(alloc, 8193), 0, 36),
+        // Nine lines of one digit and seven of two in each of two places.
+        (sixteen_hosts(alloc), 0, 16 * 31 + 2 * 7),
+        // `show mem 1 at=0 len=8192 d=`, the bytes and a newline.
+        (many_shows(alloc), 0, 63 * (28 + 16_384)),
+    ] {
+        assert_eq!(rt;
+            script.and_then(|lines| long(alloc, lines)),
+            Some((status, held))
         );
     }
 }
@@ -141,6 +298,28 @@ fn faults_are_told(rt: HostRuntime) {
         (none, [2].as_slice(), 4, 31),
     ] {
         assert_eq!(rt; failing(rt.alloc(), reads, writes), Some((status, held)));
+    }
+}
+
+// The status of a run on three writes and a show over a sink whose n-th call fails, and how many bytes
+// the sink holds.
+fn cut_at(alloc: Global, call: u32) -> Option<(u8, usize)> {
+    let script =
+        "nvmecp 1 block=512 depth=16 budget=1000\nmem 1 bytes=16\nphase\nhost 1\nsend 1 memwrite ns=1 at=0 data=01\nsend 2 memwrite ns=1 at=0 data=01\nsend 3 memwrite ns=1 at=0 data=01\nshow mem 1 at=0 len=4\n";
+    let mut source = source(alloc, script.as_bytes(), 64, &[])?;
+    let mut sink = sink(alloc, &[call])?;
+    let status = ran(alloc, "step 1 0", &mut source, &mut sink)?;
+    Some((status, sink.held().len()))
+}
+
+#[test]
+fn each_line_is_one_call(rt: HostRuntime) {
+    for (call, status, held) in [(1, 4, 0), (2, 4, 31), (3, 4, 62), (4, 4, 93), (5, 0, 126)] {
+        assert_eq!(rt;
+            cut_at(rt.alloc(), call),
+            Some((status, held)),
+            "call {call}"
+        );
     }
 }
 
