@@ -1,0 +1,32 @@
+-- How passes meet.
+use Rattle.std.specs.Prelude.{◌≡◌, ℕ, List, [], Option, Some, None}
+use Rattle.seat_lock.specs.Trails.{BeginsWith}
+use Rattle.seat_lock.specs.Views.{note}
+use Rattle.seat_lock.specs.Passes.{view_of, seen_by, at_home}
+use Rattle.seat_lock.specs.declared.types.View.{View}
+use Rattle.seat_lock.specs.declared.types.Pass.{Pass}
+use Rattle.seat_lock.specs.declared.types.Passes.{Passes}
+
+module _ {E F : Type 0} where
+  -- the passes have met: all that are at home have seen the same trail
+  abbrev pub HaveMet : Passes E F → Type 0
+  HaveMet ps = (n m : ℕ) (p q : Pass E F) → at_home ps n ≡ Some p → at_home ps m ≡ Some q → seen_by p ≡ seen_by q
+
+  -- what a pass knows, or nothing where there is none
+  abbrev pub view_in : Option (Pass E F) → View E F
+  view_in None = note []
+  view_in (Some p) = view_of p
+
+  -- what the pass of this party knows, if it is at home
+  abbrev pub view_at : Passes E F → ℕ → View E F
+  view_at ps n = view_in (at_home ps n)
+
+  -- what the pass of this party has seen, if it is at home
+  abbrev pub seen_at : Passes E F → ℕ → List E
+  seen_at ps n = (view_at ps n).seen
+
+  -- the second view is a later one of the same party, which has made nothing in between
+  pub record HasLearned (v w : View E F) : Type 0 where
+    pub seen : BeginsWith w.seen v.seen
+    pub made : w.mine ≡ v.mine
+    pub lost : BeginsWith w.lost v.lost
