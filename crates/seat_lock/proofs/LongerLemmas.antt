@@ -21,6 +21,11 @@ module _ {E : Type 0} where
       (λ le. subst (λ b. K (cond b ys xs)) (sym (le-ltb (length xs) (length ys) le)) (rest le))
       (λ more. let lt : length xs < length ys = omega arith in subst (λ b. K (cond b ys xs)) (sym (lt-ltb (length xs) (length ys) lt)) (less lt))
 
+  -- the longer is the second where that begins with the first
+  pub longer_second : (xs ys : List E) → BeginsWith ys xs → longer xs ys ≡ ys
+  longer_second xs ys b = longer_cases (λ l. l ≡ ys) xs ys (λ _. refl) (λ le. let none : length b.0 ≡ 0 = omega (arith, ap length b.1, length-append xs b.0) in
+      sym (b.1 ∙ (ap (λ r. xs ++ r) (nil_from_length b.0 none) ∙ append-nil xs)))
+
 module _ {E : Type 0} (party : E → ℕ) where
   pub begins_trans : (a b c : List E) → BeginsWith a b → BeginsWith b c → BeginsWith a c
   begins_trans a b c p q = begins_longer party c b a p.0 p.1 q
@@ -33,11 +38,6 @@ module _ {E : Type 0} (party : E → ℕ) where
 
   pub begins_told : (trail xs ys : List E) → BeginsWith trail xs → BeginsWith trail ys → BeginsWith (longer xs ys) ys
   begins_told trail xs ys b c = longer_cases (λ l. BeginsWith l ys) xs ys (λ _. begins_all party ys) (λ le. shorter_begins ys xs c.0 b.0 (sym c.1 ∙ b.1) le)
-
-  -- the longer is the second where that begins with the first
-  pub longer_second : (xs ys : List E) → BeginsWith ys xs → longer xs ys ≡ ys
-  longer_second xs ys b = longer_cases (λ l. l ≡ ys) xs ys (λ _. refl) (λ le. let none : length b.0 ≡ 0 = omega (arith, ap length b.1, length-append xs b.0) in
-      sym (b.1 ∙ (ap (λ r. xs ++ r) (nil_from_length b.0 none) ∙ append-nil xs)))
 
   -- what a party has made stays all that a trail has of it, if that is so of a beginning of this trail and of a trail that begins with it
   pub entries_between : (n : ℕ) (low middle high mine : List E) → BeginsWith middle low → BeginsWith high middle → entries_by party n low ≡ mine → entries_by party n high ≡ mine → entries_by party n middle ≡ mine

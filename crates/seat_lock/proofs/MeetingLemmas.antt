@@ -1,5 +1,5 @@
 -- What passes know before and after a step of a meeting.
-use Rattle.std.proofs.Common.{◌≡◌, ◌≢◌, ℕ, ◌+◌, ◌≤◌, List, [], ◌∷◌, ◌++◌, Option, Some, false, refl, sym, ap, ◌∙◌, subst, arith, append-nil}
+use Rattle.std.proofs.Common.{◌≡◌, ◌≢◌, ℕ, ◌+◌, ◌<◌, ◌≤◌, List, [], ◌∷◌, ◌++◌, Option, Some, false, refl, sym, ap, ◌∙◌, subst, arith, append-nil}
 use mathlib.Core.Logic.{dite}
 use native.Mathlib.Decide.{ℕ_discrete}
 use Rattle.atomic_table.specs.Table.{Me}
@@ -54,10 +54,6 @@ module _ {E F : Type 0} where
     own = subst (λ (d : ℕ × View E F). entries_by party d.0 d.1.seen ≡ d.1.mine) (λ i. (same i, sym t.is i)) (t.mine pos);
   }
 
-  -- where each other pass is as it was
-  pub view_else : (ps qs : Passes E F) (n : ℕ) → at_home qs n ≡ at_home ps n → view_at qs n ≡ view_at ps n
-  view_else ps qs n e = ap view_in e
-
   pub learned_nothing : (v : View E F) → HasLearned v v
   learned_nothing v = record { seen = ([], sym (append-nil v.seen)); made = refl; lost = ([], sym (append-nil v.lost)) }
 
@@ -92,6 +88,62 @@ module _ {E F : Type 0} where
     (ap (λ (vs : List (View E F)). (lone vs).number) e ∙ (ap (λ (d : View E F). d.number) t.is ∙ p.numbered.0), p.numbered.1),
     (ap (λ (vs : List (View E F)). (lone vs).has_turn) e ∙ (ap (λ (d : View E F). d.has_turn) t.is ∙ p.resting.0), ap (λ (vs : List (View E F)). (lone vs).kept) e ∙ ap (λ (d : View E F). d.kept) t.is),
   )
+
+  -- of the passes ps, that of `to` learned what that of `from` has seen, which makes them qs
+  pub record Tells (ps qs : Passes E F) (from to : ℕ) : Type 0 where
+    pub others : (n : ℕ) → n ≢ to → view_at qs n ≡ view_at ps n
+    pub learned : view_at qs to ≡ with_seen (longer (seen_at ps to) (seen_at ps from)) (view_at ps to)
+    pub own : BeginsWith (seen_at qs to) (seen_at ps to)
+    pub told : BeginsWith (seen_at qs to) (seen_at ps from)
+
+  seen_same : (ps qs : Passes E F) (n : ℕ) → view_at qs n ≡ view_at ps n → seen_at qs n ≡ seen_at ps n
+  seen_same ps qs n e = ap (λ (u : View E F). u.seen) e
+
+  begins_where : (trail : List E) (ps qs : Passes E F) (n : ℕ) → view_at qs n ≡ view_at ps n → BeginsWith trail (seen_at ps n) → BeginsWith trail (seen_at qs n)
+  begins_where trail ps qs n e b = subst (BeginsWith trail) (sym (seen_same ps qs n e)) b
+
+  pub tell_learns : (ps qs : Passes E F) (from to : ℕ) → Tells ps qs from to → (n : ℕ) → HasLearned (view_at ps n) (view_at qs n)
+  tell_learns ps qs from to t n = dite (ℕ_discrete n to)
+      (λ e. subst (λ (m : ℕ). HasLearned (view_at ps m) (view_at qs m)) (sym e) (learned_more (view_at ps to) (view_at qs to) (longer (seen_at ps to) (seen_at ps from)) t.learned t.own))
+      (λ ne. learned_same (view_at ps n) (view_at qs n) (t.others n ne))
+
+  -- party 1 has been told by one party more
+  pub first_told : (party : E → ℕ) (ps qs : Passes E F) (k : ℕ) → Tells ps qs (k + 1) 1 → ((n : ℕ) → 1 ≤ n → n ≤ k → BeginsWith (seen_at ps 1) (seen_at ps n)) → (n : ℕ) → 1 ≤ n → n ≤ k + 1 → BeginsWith (seen_at qs 1) (seen_at qs n)
+  first_told party ps qs k t before n some to = dite (ℕ_discrete n 1)
+      (λ e. subst (λ (m : ℕ). BeginsWith (seen_at qs 1) (seen_at qs m)) (sym e) (begins_all party (seen_at qs 1)))
+      (λ ne. begins_where (seen_at qs 1) ps qs n (t.others n ne) (dite (ℕ_discrete n (k + 1))
+      (λ e. subst (λ (m : ℕ). BeginsWith (seen_at qs 1) (seen_at ps m)) (sym e) t.told)
+      (λ less. begins_trans party (seen_at qs 1) (seen_at ps 1) (seen_at ps n) t.own (before n some (omega arith)))))
+
+  -- one party more has been told by party 1, which has seen no less
+  pub others_told : (ps qs : Passes E F) (k : ℕ) → 1 ≤ k → Tells ps qs 1 (k + 1) → BeginsWith (seen_at ps 1) (seen_at ps (k + 1)) → ((n : ℕ) → 1 ≤ n → n ≤ k → seen_at ps n ≡ seen_at ps 1) → (n : ℕ) → 1 ≤ n → n ≤ k + 1 → seen_at qs n ≡ seen_at qs 1
+  others_told ps qs k from t less before n some to = let first : seen_at qs 1 ≡ seen_at ps 1 = seen_same ps qs 1 (t.others 1 (λ e. omega arith)) in
+      let all : seen_at qs (k + 1) ≡ seen_at ps 1 = ap (λ (u : View E F). u.seen) t.learned ∙ longer_second (seen_at ps (k + 1)) (seen_at ps 1) less in dite (ℕ_discrete n (k + 1))
+      (λ e. ap (seen_at qs) e ∙ (all ∙ sym first))
+      (λ ne. seen_same ps qs n (t.others n ne) ∙ (before n some (omega arith) ∙ sym first))
+
+  -- party 1 has seen no less than those that are not told yet
+  pub still_less : (ps qs : Passes E F) (k n : ℕ) → 1 ≤ k → Tells ps qs 1 (k + 1) → k + 1 < n → BeginsWith (seen_at ps 1) (seen_at ps n) → BeginsWith (seen_at qs 1) (seen_at qs n)
+  still_less ps qs k n some t more less = begins_where (seen_at qs 1) ps qs n (t.others n (λ e. omega arith)) (subst (λ l. BeginsWith l (seen_at ps n)) (sym (seen_same ps qs 1 (t.others 1 (λ e. omega arith)))) less)
+
+  -- what one party has learned, and the others not
+  pub turn_learns : (ps qs : Passes E F) (m : ℕ) → HasLearned (view_at ps m) (view_at qs m) → ((n : ℕ) → n ≢ m → view_at qs n ≡ view_at ps n) → (n : ℕ) → HasLearned (view_at ps n) (view_at qs n)
+  turn_learns ps qs m mine others n = dite (ℕ_discrete n m)
+      (λ e. subst (λ (k : ℕ). HasLearned (view_at ps k) (view_at qs k)) (sym e) mine)
+      (λ ne. learned_same (view_at ps n) (view_at qs n) (others n ne))
+
+  -- after its turn party 1 has seen no less than any other
+  pub first_begins : (party : E → ℕ) (ps qs : Passes E F) (n : ℕ) → HasLearned (view_at ps 1) (view_at qs 1) → (n ≢ 1 → view_at qs n ≡ view_at ps n) → BeginsWith (seen_at ps 1) (seen_at ps n) → BeginsWith (seen_at qs 1) (seen_at qs n)
+  first_begins party ps qs n first others less = dite (ℕ_discrete n 1)
+      (λ e. subst (λ (m : ℕ). BeginsWith (seen_at qs 1) (seen_at qs m)) (sym e) (begins_all party (seen_at qs 1)))
+      (λ ne. begins_where (seen_at qs 1) ps qs n (others ne) (begins_trans party (seen_at qs 1) (seen_at ps 1) (seen_at ps n) first.seen less))
+
+  pub have_met : (ps : Passes E F) → ((n : ℕ) → 1 ≤ n → n ≤ seats_in ps → seen_at ps n ≡ seen_at ps 1) → HaveMet ps
+  have_met ps all n m p q here there = let a = in_range ps n p here in let b = in_range ps m q there in
+      sym (ap (λ (u : View E F). u.seen) (view_is ps n p here)) ∙ (all n a.0 a.1 ∙ (sym (all m b.0 b.1) ∙ ap (λ (u : View E F). u.seen) (view_is ps m q there)))
+
+  pub learned_home : (ps qs : Passes E F) (n : ℕ) (p q : Pass E F) → at_home ps n ≡ Some p → at_home qs n ≡ Some q → HasLearned (view_at ps n) (view_at qs n) → HasLearned (view_of p) (view_of q)
+  learned_home ps qs n p q here there h = subst (λ (d : View E F × View E F). HasLearned d.0 d.1) (λ i. (view_is ps n p here i, view_is qs n q there i)) h
 
 module _ {V E F : Type 0} (party : E → ℕ) (entries : V → List E) (fixed : V → F) where
   abbrev M : Type 0
