@@ -6,15 +6,15 @@ use Rattle.atomic_table.specs.Table.{Me}
 use Rattle.seat_lock.specs.Trails.{BeginsWith, entries_by, longer}
 use Rattle.seat_lock.specs.Views.{account_of, lone}
 use Rattle.seat_lock.specs.Plays.{Learns, with_seen, keeping}
-use Rattle.seat_lock.specs.Passes.{LockName, IsPassOf, AreAllOf, at_home, seats_in, view_of, party_of, seen_by, made_by, lost_by}
-use Rattle.seat_lock.specs.Meeting.{HaveMet, HasLearned, view_in, view_at, seen_at}
+use Rattle.seat_lock.specs.Passes.{LockName, IsPassOf, AreAllOf, HaveMet, at_home, seats_in, view_of, party_of, seen_by, made_by, lost_by}
+use Rattle.seat_lock.specs.Meeting.{HasLearned, view_in, view_at, seen_at}
 use Rattle.seat_lock.specs.declared.types.View.{View}
 use Rattle.seat_lock.specs.declared.types.Account.{Account}
 use Rattle.seat_lock.specs.declared.types.Pass.{Pass}
 use Rattle.seat_lock.specs.declared.types.Passes.{Passes}
 use Rattle.seat_lock.proofs.TrailLemmas.{begins_all}
 use Rattle.seat_lock.proofs.LongerLemmas.{begins_trans, longer_second}
-use Rattle.seat_lock.proofs.PlaceLemmas.{all_with}
+use Rattle.seat_lock.proofs.PlaceLemmas.{all_with, some_same}
 use Rattle.seat_lock.proofs.ClosingLemmas.{in_range}
 
 module _ {E F : Type 0} where
@@ -88,6 +88,12 @@ module _ {E F : Type 0} where
     (ap (λ (vs : List (View E F)). (lone vs).number) e ∙ (ap (λ (d : View E F). d.number) t.is ∙ p.numbered.0), p.numbered.1),
     (ap (λ (vs : List (View E F)). (lone vs).has_turn) e ∙ (ap (λ (d : View E F). d.has_turn) t.is ∙ p.resting.0), ap (λ (vs : List (View E F)). (lone vs).kept) e ∙ ap (λ (d : View E F). d.kept) t.is),
   )
+
+  -- once they have met, each pass has seen all that each other made
+  pub all_seen : (party : E → ℕ) (lock : LockName F) (ps : Passes E F) → AreAllOf party lock ps → HaveMet ps → (n m : ℕ) (p q : Pass E F) → at_home ps n ≡ Some p → at_home ps m ≡ Some q → entries_by party m (seen_by p) ≡ made_by q
+  all_seen party lock ps all met n m p q here there = let range = in_range ps m q there in let t = all.each m range.0 range.1 in let same : t.0 ≡ q = some_same t.0 q (sym t.1.home ∙ there) in
+      let own = subst (λ (r : Pass E F). entries_by party m (seen_by r) ≡ made_by r) same (subst (λ (k : ℕ). entries_by party k (seen_by t.0) ≡ made_by t.0) t.1.party_is t.1.of_lock.own) in
+      ap (entries_by party m) (met n m p q here there) ∙ own
 
   -- of the passes ps, that of `to` learned what that of `from` has seen, which makes them qs
   pub record Tells (ps qs : Passes E F) (from to : ℕ) : Type 0 where

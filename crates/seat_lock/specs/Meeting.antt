@@ -1,17 +1,13 @@
--- How passes meet.
+-- What the pass of a party knows, by its place, and what it may have learned since.
 use Rattle.std.specs.Prelude.{◌≡◌, ℕ, List, [], Option, Some, None}
 use Rattle.seat_lock.specs.Trails.{BeginsWith}
 use Rattle.seat_lock.specs.Views.{note}
-use Rattle.seat_lock.specs.Passes.{view_of, seen_by, at_home}
+use Rattle.seat_lock.specs.Passes.{view_of, at_home}
 use Rattle.seat_lock.specs.declared.types.View.{View}
 use Rattle.seat_lock.specs.declared.types.Pass.{Pass}
 use Rattle.seat_lock.specs.declared.types.Passes.{Passes}
 
 module _ {E F : Type 0} where
-  -- the passes have met: all that are at home have seen the same trail
-  abbrev pub HaveMet : Passes E F → Type 0
-  HaveMet ps = (n m : ℕ) (p q : Pass E F) → at_home ps n ≡ Some p → at_home ps m ≡ Some q → seen_by p ≡ seen_by q
-
   -- what a pass knows, or nothing where there is none
   abbrev pub view_in : Option (Pass E F) → View E F
   view_in None = note []

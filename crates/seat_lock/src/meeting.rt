@@ -3,8 +3,8 @@ ghost use Rattle.std.specs.Prelude.{◌≡◌, ◌≢◌, ℕ, ◌≤◌, [], So
 ghost use Rattle.seat_lock.specs.Trails.{BeginsWith, longer};
 ghost use Rattle.seat_lock.specs.Views.{note};
 ghost use Rattle.seat_lock.specs.Plays.{with_seen};
-ghost use Rattle.seat_lock.specs.Passes.{AreAllOf, lock_of, at_home, seats_in, seen_by, made_by, lost_by};
-ghost use Rattle.seat_lock.specs.Meeting.{HaveMet, HasLearned, view_at, seen_at};
+ghost use Rattle.seat_lock.specs.Passes.{AreAllOf, HaveMet, lock_of, at_home, seats_in, seen_by, made_by, lost_by};
+ghost use Rattle.seat_lock.specs.Meeting.{HasLearned, view_at, seen_at};
 
 use crate::plays::{KeepsAccount, Learn, Note};
 use crate::trailed::Trailed;
