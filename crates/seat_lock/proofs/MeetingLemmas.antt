@@ -1,12 +1,12 @@
 -- What passes know before and after a step of a meeting.
-use Rattle.std.proofs.Common.{◌≡◌, ◌≢◌, ℕ, ◌+◌, ◌<◌, ◌≤◌, List, [], ◌∷◌, ◌++◌, Option, Some, false, refl, sym, ap, ◌∙◌, subst, arith, append-nil}
+use Rattle.std.proofs.Common.{◌≡◌, ◌≢◌, ℕ, ◌+◌, ◌<◌, ◌≤◌, List, [], ◌∷◌, Option, Some, false, refl, sym, ap, ◌∙◌, subst, arith, append-nil}
 use mathlib.Core.Logic.{dite}
 use native.Mathlib.Decide.{ℕ_discrete}
 use Rattle.atomic_table.specs.Table.{Me}
 use Rattle.seat_lock.specs.Trails.{BeginsWith, entries_by, longer}
 use Rattle.seat_lock.specs.Views.{account_of, lone}
 use Rattle.seat_lock.specs.Plays.{Learns, with_seen, keeping}
-use Rattle.seat_lock.specs.Passes.{LockName, IsPassOf, AreAllOf, HaveMet, at_home, seats_in, view_of, party_of, seen_by, made_by, lost_by}
+use Rattle.seat_lock.specs.Passes.{LockName, IsPassOf, AreAllOf, HaveMet, at_home, seats_in, view_of, party_of, seen_by, made_by}
 use Rattle.seat_lock.specs.Meeting.{HasLearned, view_in, view_at, seen_at}
 use Rattle.seat_lock.specs.declared.types.View.{View}
 use Rattle.seat_lock.specs.declared.types.Account.{Account}

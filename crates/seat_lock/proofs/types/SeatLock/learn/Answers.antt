@@ -1,10 +1,7 @@
-use Rattle.std.proofs.Common.{◌≡◌, ◌<◌, [], ◌∷◌, List, Option, Some, false, sym, ap, ◌∙◌, subst, arith}
-use Rattle.atomic_table.specs.Table.{Me}
-use Rattle.seat_lock.specs.Trails.{BeginsWith, longer}
+use Rattle.std.proofs.Common.{◌≡◌, ◌<◌, [], ◌∷◌, List, false, sym, ap, ◌∙◌, subst, arith}
 use Rattle.seat_lock.specs.Views.{lone, account_of}
-use Rattle.seat_lock.specs.Plays.{with_seen, keeping}
-use Rattle.seat_lock.specs.Passes.{LockName, IsPassOf, lock_of, view_of, at_home, seen_by}
-use Rattle.seat_lock.specs.Meeting.{view_at, seen_at}
+use Rattle.seat_lock.specs.Plays.{keeping}
+use Rattle.seat_lock.specs.Passes.{LockName, lock_of, view_of, at_home}
 use Rattle.seat_lock.specs.declared.types.View.{View}
 use Rattle.seat_lock.specs.declared.types.Account.{Account}
 use Rattle.seat_lock.proofs.PlaceLemmas.{some_home, of_lent}

@@ -1,6 +1,6 @@
 use Rattle.std.proofs.Common.{◌≡◌, ◌<◌, sym, ap, ◌∙◌, arith}
 use Rattle.seat_lock.specs.Views.{lone}
-use Rattle.seat_lock.specs.Passes.{LockName, IsPassOf, lock_of, view_of}
+use Rattle.seat_lock.specs.Passes.{LockName, lock_of, view_of}
 use Rattle.seat_lock.proofs.PlaceLemmas.{some_home, of_lent}
 use Rattle.seat_lock.proofs.SeatSteps.{notes}
 use Rattle.seat_lock.proofs.MeetingLemmas.{back_home, of_same}

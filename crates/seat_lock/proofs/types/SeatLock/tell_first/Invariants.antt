@@ -1,6 +1,6 @@
-use Rattle.std.proofs.Common.{◌≡◌, ℕ, ◌<◌, ◌≤◌}
+use Rattle.std.proofs.Common.{ℕ, ◌≤◌}
 use Rattle.seat_lock.specs.Trails.{BeginsWith}
-use Rattle.seat_lock.specs.Passes.{AreAllOf, lock_of, seats_in}
+use Rattle.seat_lock.specs.Passes.{AreAllOf, lock_of}
 use Rattle.seat_lock.specs.Meeting.{HasLearned, view_at, seen_at}
 use Rattle.seat_lock.proofs.types.SeatLock.tell_first.Given as goal
 
