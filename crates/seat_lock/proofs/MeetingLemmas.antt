@@ -121,22 +121,15 @@ module _ {E F : Type 0} where
       (λ e. subst (λ (m : ℕ). BeginsWith (seen_at qs 1) (seen_at ps m)) (sym e) t.told)
       (λ less. begins_trans party (seen_at qs 1) (seen_at ps 1) (seen_at ps n) t.own (before n some (omega arith)))))
 
-  -- one party more has been told by party 1, which has seen no less
-  pub others_told : (ps qs : Passes E F) (k : ℕ) → 1 ≤ k → Tells ps qs 1 (k + 1) → BeginsWith (seen_at ps 1) (seen_at ps (k + 1)) → ((n : ℕ) → 1 ≤ n → n ≤ k → seen_at ps n ≡ seen_at ps 1) → (n : ℕ) → 1 ≤ n → n ≤ k + 1 → seen_at qs n ≡ seen_at qs 1
-  others_told ps qs k from t less before n some to = let first : seen_at qs 1 ≡ seen_at ps 1 = seen_same ps qs 1 (t.others 1 (λ e. omega arith)) in
-      let all : seen_at qs (k + 1) ≡ seen_at ps 1 = ap (λ (u : View E F). u.seen) t.learned ∙ longer_second (seen_at ps (k + 1)) (seen_at ps 1) less in dite (ℕ_discrete n (k + 1))
-      (λ e. ap (seen_at qs) e ∙ (all ∙ sym first))
-      (λ ne. seen_same ps qs n (t.others n ne) ∙ (before n some (omega arith) ∙ sym first))
+  -- one party more has been told by party 1, which has seen this trail and no less than the other
+  pub others_told : (ps qs : Passes E F) (k : ℕ) (trail : List E) → 1 ≤ k → Tells ps qs 1 (k + 1) → BeginsWith (seen_at ps 1) (seen_at ps (k + 1)) → ((n : ℕ) → 1 ≤ n → n ≤ k → seen_at ps n ≡ trail) → (n : ℕ) → 1 ≤ n → n ≤ k + 1 → seen_at qs n ≡ trail
+  others_told ps qs k trail from t less before n some to = dite (ℕ_discrete n (k + 1))
+      (λ e. ap (seen_at qs) e ∙ (ap (λ (u : View E F). u.seen) t.learned ∙ (longer_second (seen_at ps (k + 1)) (seen_at ps 1) less ∙ before 1 (omega arith) from)))
+      (λ ne. seen_same ps qs n (t.others n ne) ∙ before n some (omega arith))
 
   -- party 1 has seen no less than those that are not told yet
   pub still_less : (ps qs : Passes E F) (k n : ℕ) → 1 ≤ k → Tells ps qs 1 (k + 1) → k + 1 < n → BeginsWith (seen_at ps 1) (seen_at ps n) → BeginsWith (seen_at qs 1) (seen_at qs n)
   still_less ps qs k n some t more less = begins_where (seen_at qs 1) ps qs n (t.others n (λ e. omega arith)) (subst (λ l. BeginsWith l (seen_at ps n)) (sym (seen_same ps qs 1 (t.others 1 (λ e. omega arith)))) less)
-
-  -- what one party has learned, and the others not
-  pub turn_learns : (ps qs : Passes E F) (m : ℕ) → HasLearned (view_at ps m) (view_at qs m) → ((n : ℕ) → n ≢ m → view_at qs n ≡ view_at ps n) → (n : ℕ) → HasLearned (view_at ps n) (view_at qs n)
-  turn_learns ps qs m mine others n = dite (ℕ_discrete n m)
-      (λ e. subst (λ (k : ℕ). HasLearned (view_at ps k) (view_at qs k)) (sym e) mine)
-      (λ ne. learned_same (view_at ps n) (view_at qs n) (others n ne))
 
   -- after its turn party 1 has seen no less than any other
   pub first_begins : (party : E → ℕ) (ps qs : Passes E F) (n : ℕ) → HasLearned (view_at ps 1) (view_at qs 1) → (n ≢ 1 → view_at qs n ≡ view_at ps n) → BeginsWith (seen_at ps 1) (seen_at ps n) → BeginsWith (seen_at qs 1) (seen_at qs n)
@@ -144,12 +137,12 @@ module _ {E F : Type 0} where
       (λ e. subst (λ (m : ℕ). BeginsWith (seen_at qs 1) (seen_at qs m)) (sym e) (begins_all party (seen_at qs 1)))
       (λ ne. begins_where (seen_at qs 1) ps qs n (others ne) (begins_trans party (seen_at qs 1) (seen_at ps 1) (seen_at ps n) first.seen less))
 
-  pub have_met : (ps : Passes E F) → ((n : ℕ) → 1 ≤ n → n ≤ seats_in ps → seen_at ps n ≡ seen_at ps 1) → HaveMet ps
-  have_met ps all n m p q here there = let a = in_range ps n p here in let b = in_range ps m q there in
-      sym (ap (λ (u : View E F). u.seen) (view_is ps n p here)) ∙ (all n a.0 a.1 ∙ (sym (all m b.0 b.1) ∙ ap (λ (u : View E F). u.seen) (view_is ps m q there)))
+  -- what each pass at home has seen
+  pub home_seen : (ps : Passes E F) (trail : List E) → ((n : ℕ) → 1 ≤ n → n ≤ seats_in ps → seen_at ps n ≡ trail) → (n : ℕ) (p : Pass E F) → at_home ps n ≡ Some p → seen_by p ≡ trail
+  home_seen ps trail all n p here = let range = in_range ps n p here in sym (ap (λ (u : View E F). u.seen) (view_is ps n p here)) ∙ all n range.0 range.1
 
-  pub learned_home : (ps qs : Passes E F) (n : ℕ) (p q : Pass E F) → at_home ps n ≡ Some p → at_home qs n ≡ Some q → HasLearned (view_at ps n) (view_at qs n) → HasLearned (view_of p) (view_of q)
-  learned_home ps qs n p q here there h = subst (λ (d : View E F × View E F). HasLearned d.0 d.1) (λ i. (view_is ps n p here i, view_is qs n q there i)) h
+  pub have_met : (ps : Passes E F) (trail : List E) → ((n : ℕ) → 1 ≤ n → n ≤ seats_in ps → seen_at ps n ≡ trail) → HaveMet ps
+  have_met ps trail all n m p q here there = home_seen ps trail all n p here ∙ sym (home_seen ps trail all m q there)
 
 module _ {V E F : Type 0} (party : E → ℕ) (entries : V → List E) (fixed : V → F) where
   abbrev M : Type 0

@@ -3,7 +3,7 @@ ghost use Rattle.std.specs.Prelude.{◌≡◌, ◌≢◌, ℕ, ◌≤◌, [], So
 ghost use Rattle.seat_lock.specs.Trails.{BeginsWith, longer};
 ghost use Rattle.seat_lock.specs.Views.{note};
 ghost use Rattle.seat_lock.specs.Plays.{with_seen};
-ghost use Rattle.seat_lock.specs.Passes.{AreAllOf, HaveMet, lock_of, at_home, seats_in, seen_by, made_by, lost_by};
+ghost use Rattle.seat_lock.specs.Passes.{AreAllOf, HaveMet, IsTrailOf, lock_of, at_home, seats_in, seen_by, made_by, lost_by};
 ghost use Rattle.seat_lock.specs.Meeting.{HasLearned, view_at, seen_at};
 
 use crate::plays::{KeepsAccount, Learn, Note};
@@ -13,11 +13,13 @@ use atomic_table::Seat;
 use std::sync::Wait;
 
 impl<V: Trailed> SeatLock<V> {
-    /// All passes meet: then all have seen the same trail. Party 1 takes a turn for it, in which it makes nothing. It takes no memory.
+    /// All passes meet, which are at home: then all have seen the same trail. Party 1 takes a turn for it, in which it makes nothing.
+    /// It takes no memory.
     pub fn meet<R: Wait>(&self, rt: &R, passes: &mut Passes<V::Entry, V::Fixed>)
         requires { AreAllOf V.party (lock_of V.fixed self.now) passes.old }
         ensures all { AreAllOf V.party (lock_of V.fixed self.entry.now) passes.new }
         ensures met { HaveMet passes.new }
+        ensures trail { (n : ℕ) (p : _) → at_home passes.new n ≡ Some p → IsTrailOf V.entries V.fixed (lock_of V.fixed self.entry.now) (seen_by p) }
         ensures seen { (n : ℕ) (p q : _) → at_home passes.old n ≡ Some p → at_home passes.new n ≡ Some q → BeginsWith (seen_by q) (seen_by p) }
         ensures made { (n : ℕ) (p q : _) → at_home passes.old n ≡ Some p → at_home passes.new n ≡ Some q → made_by q ≡ made_by p }
         ensures lost { (n : ℕ) (p q : _) → at_home passes.old n ≡ Some p → at_home passes.new n ≡ Some q → BeginsWith (lost_by q) (lost_by p) }
@@ -44,6 +46,7 @@ impl<V: Trailed> SeatLock<V> {
         requires { AreAllOf V.party (lock_of V.fixed self.now) passes.old }
         ensures all { AreAllOf V.party (lock_of V.fixed self.entry.now) passes.new }
         ensures first { HasLearned (view_at passes.old 1) (view_at passes.new 1) }
+        ensures trail { IsTrailOf V.entries V.fixed (lock_of V.fixed self.entry.now) (seen_at passes.new 1) }
         ensures others { (n : ℕ) → n ≢ 1 → view_at passes.new n ≡ view_at passes.old n }
     {
         let turn = self.enter(rt, passes.lend(1));
@@ -56,7 +59,7 @@ impl<V: Trailed> SeatLock<V> {
         requires seen { (n : ℕ) → 1 ≤ n → n ≤ seats_in passes.old → BeginsWith (seen_at passes.old 1) (seen_at passes.old n) }
         ensures all { AreAllOf V.party (lock_of V.fixed self.entry.now) passes.new }
         ensures each { (n : ℕ) → HasLearned (view_at passes.old n) (view_at passes.new n) }
-        ensures met { (n : ℕ) → 1 ≤ n → n ≤ seats_in passes.new → seen_at passes.new n ≡ seen_at passes.new 1 }
+        ensures met { (n : ℕ) → 1 ≤ n → n ≤ seats_in passes.new → seen_at passes.new n ≡ seen_at passes.old 1 }
     {
         for party in 1..passes.seats() {
             self.tell(passes, 1, party + 1);

@@ -10,6 +10,6 @@ invariant-loop-party g l =
     record {
       all : AreAllOf g.V.Trailed.party (lock_of g.V.Trailed.fixed l.self) l.passes;
       each : (n : ℕ) → HasLearned (view_at l.fn.passes n) (view_at l.passes n);
-      met : (n : ℕ) → 1 ≤ n → n ≤ l.party → seen_at l.passes n ≡ seen_at l.passes 1;
+      met : (n : ℕ) → 1 ≤ n → n ≤ l.party → seen_at l.passes n ≡ seen_at l.fn.passes 1;
       less : (n : ℕ) → l.party < n → n ≤ seats_in l.passes → BeginsWith (seen_at l.passes 1) (seen_at l.passes n);
     }
