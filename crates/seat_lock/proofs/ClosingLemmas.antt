@@ -42,7 +42,7 @@ module _ {E F : Type 0} where
         (λ other. let t = h.kept n p from (omega arith) e in (suc t.0, t.1));
   }
 
-  in_range : (ps : Passes E F) (n : ℕ) (p : Pass E F) → at_home ps n ≡ Some p → (1 ≤ n) × (n ≤ seats_in ps)
+  pub in_range : (ps : Passes E F) (n : ℕ) (p : Pass E F) → at_home ps n ≡ Some p → (1 ≤ n) × (n ≤ seats_in ps)
   in_range ps zero p e = absurd (cc)
   in_range ps (suc k) p e = let t = home_within ps.places.items (suc k) (ap is_some e) in (omega arith, omega arith)
 

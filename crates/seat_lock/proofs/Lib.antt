@@ -6,3 +6,6 @@ pub mod SeatSteps
 pub mod PlaceLemmas
 pub mod JoinSteps
 pub mod ClosingLemmas
+pub mod LongerLemmas
+pub mod LookSteps
+pub mod MeetingLemmas

@@ -5,3 +5,4 @@ pub mod Plays
 pub mod Passes
 pub mod Lending
 pub mod Closing
+pub mod Meeting

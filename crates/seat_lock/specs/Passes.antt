@@ -1,5 +1,5 @@
 -- What contracts say of locks, passes and turns. The crates above speak of them through these words alone.
-use Rattle.std.specs.Prelude.{◌≡◌, ℕ, zero, suc, ◌≤◌, ◌⊎◌, List, [], ◌∷◌, ◌++◌, Option, Some, None, length, slice_get}
+use Rattle.std.specs.Prelude.{◌≡◌, ℕ, zero, suc, ◌^◌, ◌<◌, ◌≤◌, ◌⊎◌, List, [], ◌∷◌, ◌++◌, Option, Some, None, length, slice_get}
 use Rattle.std.specs.Prelude.{option_and_then}
 use Rattle.atomic_table.specs.Seated.{TableId}
 use Rattle.seat_lock.specs.Trails.{entries_by}
@@ -58,6 +58,13 @@ module _ {V E F : Type 0} where
   -- which lock it is, where `fixed` gives the fixed part of a value
   abbrev pub lock_of : (V → F) → SeatLock V E F → LockName F
   lock_of fixed l = record { table = l.table.shared.table_id; fixed = Some (fixed l.table.shared.key.first.value); seats = l.table.shared.key.seats }
+
+  -- the trail is that of a value with the fixed part of this lock
+  pub record IsTrailOf (entries : V → List E) (fixed : V → F) (lock : LockName F) (trail : List E) : Type 0 where
+    pub value : V
+    pub entries_are : entries value ≡ trail
+    pub fixed_is : Some (fixed value) ≡ lock.fixed
+    pub short : length trail < 2 ^ 32
 
   -- which lock a turn is of
   abbrev pub lock_in : Turn V E F → LockName F
@@ -126,3 +133,7 @@ module _ {E F : Type 0} where
   pub record AreAllNew (lock : LockName F) (ps : Passes E F) : Type 0 where
     pub seats : seats_in ps ≡ lock.seats
     pub each : (n : ℕ) → 1 ≤ n → n ≤ seats_in ps → (p : Pass E F) × (at_home ps n ≡ Some p) × IsNewPass lock lock.seats n p
+
+  -- the passes have met: all that are at home have seen the same trail
+  abbrev pub HaveMet : Passes E F → Type 0
+  HaveMet ps = (n m : ℕ) (p q : Pass E F) → at_home ps n ≡ Some p → at_home ps m ≡ Some q → seen_by p ≡ seen_by q

@@ -35,9 +35,9 @@ module _ {E F : Type 0} where
   abbrev pub keeping : View E F → View E F → View E F
   keeping v w = record v { kept = account_of w ∷ v.kept }
 
-  -- the view learns what the other has seen, if that is more
-  abbrev pub told : View E F → View E F → View E F
-  told v w = record v { seen = longer v.seen w.seen }
+  -- the view once it has seen this trail. It forgets what it kept of others
+  abbrev pub with_seen : List E → View E F → View E F
+  with_seen trail v = record v { seen = trail; kept = [] }
 
 module _ {V E F : Type 0} (party : E → ℕ) (entries : V → List E) (fixed : V → F) where
   abbrev Sat : Type 0
@@ -67,3 +67,13 @@ module _ {V E F : Type 0} (party : E → ℕ) (entries : V → List E) (fixed : 
   -- the turn is given back
   abbrev pub released : At → Sat → ℕ → Sat → Type 0
   released st m word m' = m' ≡ (at_rest m.0, [])
+
+  -- of what a view has seen and another trail the longer begins with both, and its entries of the view's party are those that the view made
+  pub record Learns (v : View E F) (other : List E) : Type 0 where
+    pub own : BeginsWith (longer v.seen other) v.seen
+    pub told : BeginsWith (longer v.seen other) other
+    pub mine : v.number ≢ 0 → entries_by party v.number (longer v.seen other) ≡ v.mine
+
+  -- a look at the table, by which a view learns what the one account that it keeps has seen, if that is more
+  abbrev pub learned : At → Sat → ℕ → Sat → Type 0
+  learned st m word m' = (a : Account E) → m.0.kept ≡ a ∷ [] → (m' ≡ (with_seen (longer m.0.seen a.seen) m.0, m.1)) × Learns m.0 a.seen

@@ -4,6 +4,7 @@
 
 mod closing;
 mod making;
+mod meeting;
 mod places;
 mod plays;
 #[cfg(test)]

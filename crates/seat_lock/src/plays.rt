@@ -1,7 +1,7 @@
 //! What each step on the table tells, and how views are cut and joined.
 ghost use Rattle.std.specs.Prelude.{[]};
 ghost use Rattle.seat_lock.specs.Views.{note};
-ghost use Rattle.seat_lock.specs.Plays.{tried, counted, released, with_party_made, next_party, keeping, told};
+ghost use Rattle.seat_lock.specs.Plays.{tried, counted, released, learned, with_party_made, next_party, keeping};
 
 use crate::trailed::Trailed;
 use crate::types::View;
@@ -28,6 +28,13 @@ impl<V: Trailed> Play<Option<V>, View<V::Entry, V::Fixed>> for Release {
     ghost then = { released V.party V.entries V.fixed };
 }
 
+/// A look at the table, by which a view learns what it was told.
+pub(crate) struct Learn;
+
+impl<V: Trailed> Play<Option<V>, View<V::Entry, V::Fixed>> for Learn {
+    ghost then = { learned V.party V.entries V.fixed };
+}
+
 /// Party 1 makes the next party.
 pub(crate) struct NextParty;
 
@@ -51,15 +58,6 @@ pub(crate) struct KeepsAccount;
 
 impl<E, F> Join<View<E, F>> for KeepsAccount {
     ghost both = { keeping };
-
-    ghost spent = { note [] };
-}
-
-/// The first learns what the second has seen.
-pub(crate) struct Learns;
-
-impl<E, F> Join<View<E, F>> for Learns {
-    ghost both = { told };
 
     ghost spent = { note [] };
 }

@@ -1,7 +1,9 @@
-ghost use Rattle.std.specs.Prelude.{◌≡◌, ◌≢◌, ℕ, ◌≤◌, [], None};
-ghost use Rattle.seat_lock.specs.Passes.{AreAllOf, IsPassOf, at_home, lock_of, party_of, seats_in};
+ghost use Rattle.std.specs.Prelude.{◌≡◌, ◌≢◌, ℕ, ◌≤◌, [], Some, None};
+ghost use Rattle.seat_lock.specs.Trails.{entries_by};
+ghost use Rattle.seat_lock.specs.Passes.{AreAllOf, IsPassOf, at_home, lock_of, made_by, party_of, seats_in, seen_by};
 
 use crate::{Held, Pass, Passes, SeatLock, Trailed};
+use crossbeam_utils::CachePadded;
 use std::alloc::Global;
 use std::sync::Wait;
 use std::test::Fail;
@@ -133,6 +135,38 @@ fn write_in_threads<R: Threads + Wait + Sync>(
     passes.give(second);
 }
 
+// A party writes a line in a turn of its own, and its pass goes home.
+fn write_as<R: Wait>(
+    rt: &R,
+    lock: &SeatLock<Notebook>,
+    passes: &mut Passes<Line, u32>,
+    party: u32,
+    number: u32,
+)
+    requires all { AreAllOf ⟦<Notebook as Trailed>⟧.party (lock_of ⟦<Notebook as Trailed>⟧.fixed lock.now) passes.old }
+    requires party { (1 ≤ party) × (party ≤ seats_in passes.old) }
+    ensures { AreAllOf ⟦<Notebook as Trailed>⟧.party (lock_of ⟦<Notebook as Trailed>⟧.fixed lock.now) passes.new }
+{
+    let pass = passes.lend(party);
+    passes.give(write(rt, lock, pass, number));
+}
+
+// The parties 1 and 2 write lines, and then all passes meet. Each pass has then seen all that each other made.
+fn write_and_meet<R: Threads + Wait + Sync>(
+    rt: &R,
+    lock: &SeatLock<Notebook>,
+    passes: &mut Passes<Line, u32>,
+    count: u32,
+)
+    requires all { AreAllOf ⟦<Notebook as Trailed>⟧.party (lock_of ⟦<Notebook as Trailed>⟧.fixed lock.now) passes.old }
+    requires two { 2 ≤ seats_in passes.old }
+    ensures all { AreAllOf ⟦<Notebook as Trailed>⟧.party (lock_of ⟦<Notebook as Trailed>⟧.fixed lock.now) passes.new }
+    ensures seen { (n m : ℕ) (p q : _) → at_home passes.new n ≡ Some p → at_home passes.new m ≡ Some q → entries_by ⟦<Notebook as Trailed>⟧.party m (seen_by p) ≡ made_by q }
+{
+    write_in_threads(rt, lock, passes, count);
+    lock.meet(rt, passes);
+}
+
 // The pass of the last party.
 fn last_pass(
     lock: &SeatLock<Notebook>,
@@ -233,5 +267,27 @@ fn two_threads_leave_all_their_lines(rt: HostRuntime) -> Result<(), Fail> {
         next[party] = next[party].wrapping_add(1);
     }
     assert!(rt; notebook.lines.len() == 2000 && in_order && next == [0, 1000, 1000]);
+    Ok(())
+}
+
+#[test]
+fn three_passes_meet_and_the_last_writes(rt: HostRuntime) -> Result<(), Fail> {
+    let (lock, mut passes) = SeatLock::new(rt.alloc(), empty_notebook(rt.alloc()), 3)?;
+    write_and_meet(&rt, &lock, &mut passes, 2);
+    write_as(&rt, &lock, &mut passes, 3, 7);
+    lock.meet(&rt, &mut passes);
+    let notebook = lock.close(passes);
+    let last = notebook.lines.len() == 5 && notebook.lines[4].party == 3;
+    assert!(rt; last && notebook.lines[4].number == 7);
+    Ok(())
+}
+
+#[test]
+fn a_padded_lock_serves_two_threads(rt: HostRuntime) -> Result<(), Fail> {
+    let (lock, mut passes) = SeatLock::new(rt.alloc(), empty_notebook(rt.alloc()), 2)?;
+    let padded = CachePadded::new(lock);
+    write_in_threads(&rt, &padded, &mut passes, 10);
+    let notebook = padded.into_inner().close(passes);
+    assert!(rt; notebook.lines.len() == 20);
     Ok(())
 }
