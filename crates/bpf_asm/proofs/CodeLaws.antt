@@ -111,8 +111,8 @@ assembled code small is a some e =
     record {
       well_formed = filled-end code (slots_all is) (omega arith) filled (omega arith);
       text =
-        ap (λ (n : ℕ). flat_map (λ p. line_at (instruction_at code p)) (range_with_len 0 n)) units
-        ∙ over_slots line_at (instruction_at code) (slots_all is) 0 (λ k lt. let same : k ≡ 0 + k = omega arith in at k ∙ ap (instruction_at code) same) ∙ text-slots is;
+          ap (λ (n : ℕ). flat_map (λ p. line_at (instruction_at code p)) (range_with_len 0 n)) units
+          ∙ over_slots line_at (instruction_at code) (slots_all is) 0 (λ k lt. let same : k ≡ 0 + k = omega arith in at k ∙ ap (instruction_at code) same) ∙ text-slots is;
     }
 
 -- ---- well formed code is the code of instructions
@@ -136,14 +136,16 @@ walked (suc n) code from small = by_form (form code from) refl (λ i. walked n c
         let place : 8 * (from + units_of i) ≡ 8 * from + length (encoding i) = omega arith in
         let behind : drop (8 * (from + units_of i)) code ≡ drop (length (encoding i)) (drop (8 * from) code) =
         ap (λ (m : ℕ). drop m code) place ∙ drop-add (8 * from) (length (encoding i)) code in
-        let whole = take-append-drop (length (encoding i)) (drop (8 * from) code) in
-        (i ∷ ih.0, record {
-          allowed = (enc.0, ih.1.allowed);
-          bytes =
-            sym whole ∙ ap (λ (t : List ℕ). t ++ drop (length (encoding i)) (drop (8 * from) code)) enc.1
-            ∙ ap (λ (t : List ℕ). encoding i ++ t) (sym behind ∙ ih.1.bytes)
-            ∙ sym (append_assoc (encoding i) (code_of ih.0) (drop (8 * stop_from n code (from + units_of i)) code));
-        })
+        let whole = take-append-drop (length (encoding i)) (drop (8 * from) code) in (
+          i ∷ ih.0,
+          record {
+            allowed = (enc.0, ih.1.allowed);
+            bytes =
+                sym whole ∙ ap (λ (t : List ℕ). t ++ drop (length (encoding i)) (drop (8 * from) code)) enc.1
+                ∙ ap (λ (t : List ℕ). encoding i ++ t) (sym behind ∙ ih.1.bytes)
+                ∙ sym (append_assoc (encoding i) (code_of ih.0) (drop (8 * stop_from n code (from + units_of i)) code));
+          },
+        )
 
 drop-end : (xs : List ℕ) → drop (length xs) xs ≡ []
 drop-end [] = refl

@@ -218,6 +218,7 @@ widths = record {
       (number_of_is t m.0 (bits_of w) m.1 (swap_width m.0 w m.2), tt);
   again = λ w h. ap (option_and_then (λ n. named swap_imms n)) (number_of-decimal (bits_of w) (bits_small w)) ∙ bits_again w;
 }
+
 again_32 : (op : AluOp) → is_move_32 op ≡ true → named move_offsets_32 (alu_offset op) ≡ Some op
 again_32 alu.Movsx8 h = refl
 again_32 alu.Movsx16 h = refl
@@ -321,9 +322,13 @@ three_spelled {A} {B} {C} {ta} {ra} {Fa} {tb} {rb} {Fb} {tc} {rc} sa sb sc ps x 
     let r = three-some (ra m.0.0) (rb m.0.1) (rc m.0.2) x m.2 in
     let a = sa.spelled m.0.0 x.0 r.0 in
     let b = sb.spelled m.0.1 x.1 r.1 in
-    let c = sc.spelled m.0.2 x.2 r.2 in
-    (three_is ps m.0 m.1 ∙ ap (λ (t : List ℕ). t ∷ m.0.1 ∷ m.0.2 ∷ []) a.0 ∙ ap (λ (t : List ℕ). ta x.0 ∷ t ∷ m.0.2 ∷ []) b.0
-    ∙ ap (λ (t : List ℕ). ta x.0 ∷ tb x.1 ∷ t ∷ []) c.0, a.1, b.1, c.1)
+    let c = sc.spelled m.0.2 x.2 r.2 in (
+      three_is ps m.0 m.1 ∙ ap (λ (t : List ℕ). t ∷ m.0.1 ∷ m.0.2 ∷ []) a.0 ∙ ap (λ (t : List ℕ). ta x.0 ∷ t ∷ m.0.2 ∷ []) b.0
+          ∙ ap (λ (t : List ℕ). ta x.0 ∷ tb x.1 ∷ t ∷ []) c.0,
+      a.1,
+      b.1,
+      c.1,
+    )
 
 pub one_again : {A : Type 0} {ta : A → List ℕ} {ra : List ℕ → Option A} {Fa : A → Type 0} → Spelling ta ra Fa
     → (x : A) → Fa x → read_one ra (ta x ∷ []) ≡ Some x

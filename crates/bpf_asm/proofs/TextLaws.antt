@@ -90,23 +90,27 @@ code-append : (is js : List Insn) → code_of (is ++ js) ≡ code_of is ++ code_
 code-append [] js = refl
 code-append (i ∷ is) js = ap (λ (c : List ℕ). encoding i ++ c) (code-append is js) ∙ sym (append_assoc (encoding i) (code_of is) (code_of js))
 
--- the text of well formed code has no faulty line
-pub not_faulty : (code : List ℕ) → All (λ b. b < 256) code → IsWellFormed code → length code ≤ 65536 → (n : ℕ) → IsFaultyAt (text_of_code code) n → ⊥
-not_faulty code small well limit n f =
-    let d = disassembled code small well in
-    let b = begins f.before d.0 f.rest f.allowed d.1.allowed (sym d.1.text ∙ f.lines) in
-    by_more d.0 b.more b.front b.behind b.allowed d.1.some d.1.bytes
+-- lines of instructions whose code is not too long have no faulty one
+pub lines_not_faulty : (text : List ℕ) (is : List Insn) → AreAllowed is → (is ≡ [] → ⊥) → length (code_of is) ≤ 65536 → text ≡ text_of is → (n : ℕ) → IsFaultyAt text n → ⊥
+lines_not_faulty text is allowed some limit whole n f =
+    let b = begins f.before is f.rest f.allowed allowed (sym whole ∙ f.lines) in
+    by_more b.more b.front b.behind b.allowed
   where
-    by_more : (is more : List Insn) → is ≡ f.before ++ more → f.rest ≡ text_of more → AreAllowed more → (is ≡ [] → ⊥) → code ≡ code_of is → ⊥
-    by_more is [] front behind a some bytes =
-        some (front ∙ append-nil f.before ∙ f.some behind)
-    by_more is (i ∷ more) front behind a some bytes =
+    by_more : (more : List Insn) → is ≡ f.before ++ more → f.rest ≡ text_of more → AreAllowed more → ⊥
+    by_more [] front behind a = some (front ∙ append-nil f.before ∙ f.some behind)
+    by_more (i ∷ more) front behind a =
         let over = f.faulty i (text_of more) a.0 behind in
-        let whole : length code ≡ length (code_of f.before ++ (encoding i ++ code_of more)) = ap length (bytes ∙ ap code_of front ∙ code-append f.before (i ∷ more)) in
+        let bytes : length (code_of is) ≡ length (code_of f.before ++ (encoding i ++ code_of more)) = ap length (ap code_of front ∙ code-append f.before (i ∷ more)) in
         let l1 = length-append (code_of f.before) (encoding i ++ code_of more) in
         let l2 = length-append (encoding i) (code_of more) in
         let l3 = length-append (code_of f.before) (encoding i) in
         absurd (omega arith)
+
+-- the text of well formed code has no faulty line
+pub not_faulty : (code : List ℕ) → All (λ b. b < 256) code → IsWellFormed code → length code ≤ 65536 → (n : ℕ) → IsFaultyAt (text_of_code code) n → ⊥
+not_faulty code small well limit n f =
+    let d = disassembled code small well in
+    lines_not_faulty (text_of_code code) d.0 d.1.allowed d.1.some (subst (λ (c : List ℕ). length c ≤ 65536) d.1.bytes limit) d.1.text n f
 
 -- texts of one code
 same_texts : (is js : List Insn) → AreAllowed is → AreAllowed js → text_of is ≡ text_of js → is ≡ js
@@ -174,12 +178,12 @@ one_line text rest after line old new n s cut add =
     record {
       before = s.before ++ i ∷ [];
       lines =
-        s.lines ∙ ap (λ (t : List ℕ). text_of s.before ++ t) behind ∙ sym (append_assoc (text_of s.before) (line_of i ++ 10 ∷ []) after)
-        ∙ ap (λ (t : List ℕ). t ++ after) (sym (text-append s.before i));
+          s.lines ∙ ap (λ (t : List ℕ). text_of s.before ++ t) behind ∙ sym (append_assoc (text_of s.before) (line_of i ++ 10 ∷ []) after)
+          ∙ ap (λ (t : List ℕ). t ++ after) (sym (text-append s.before i));
       allowed = allowed-append s.before i s.allowed add.allowed;
       bytes =
-        add.bytes ∙ ap (λ (t : List ℕ). t ++ encoding i) s.bytes ∙ ap (λ (t : List ℕ). code_of s.before ++ t) (sym (append-nil (encoding i)))
-        ∙ sym (code-append s.before (i ∷ []));
+          add.bytes ∙ ap (λ (t : List ℕ). t ++ encoding i) s.bytes ∙ ap (λ (t : List ℕ). code_of s.before ++ t) (sym (append-nil (encoding i)))
+          ∙ sym (code-append s.before (i ∷ []));
       counted = omega arith;
       limit = add.limit;
       few = omega arith;
@@ -220,11 +224,22 @@ fault_unended text rest code n s plain some = record {
         let l3 = units_of-pos i in
         absurd (omega arith)
 
-pub all_assembled : (text rest code : List ℕ) (n : ℕ) → ((k : ℕ) → slice_index code k < 256) → IsAssembledTo text rest code n → rest ≡ [] → (code ≡ [] → ⊥)
-    → IsWellFormed code × (text_of_code code ≡ text)
+-- a text of which all lines are assembled
+pub record IsWhole (text code : List ℕ) : Type 0 where
+  pub well_formed : IsWellFormed code
+  pub same_text : text_of_code code ≡ text
+  pub no_fault : (n : ℕ) → IsFaultyAt text n → ⊥
+
+pub all_assembled : (text rest code : List ℕ) (n : ℕ) → ((k : ℕ) → slice_index code k < 256) → IsAssembledTo text rest code n → rest ≡ [] → (code ≡ [] → ⊥) → IsWhole text code
 all_assembled text rest code n small s none some =
-    let c = assembled code small s.before s.allowed (λ e. some (s.bytes ∙ ap code_of e)) s.bytes in
-    (c.well_formed, c.text ∙ sym (append-nil (text_of s.before)) ∙ ap (λ (t : List ℕ). text_of s.before ++ t) (sym none) ∙ sym s.lines)
+    let more : s.before ≡ [] → ⊥ = λ e. some (s.bytes ∙ ap code_of e) in
+    let c = assembled code small s.before s.allowed more s.bytes in
+    let whole : text ≡ text_of s.before = s.lines ∙ ap (λ (t : List ℕ). text_of s.before ++ t) none ∙ append-nil (text_of s.before) in
+    record {
+      well_formed = c.well_formed;
+      same_text = c.text ∙ sym whole;
+      no_fault = lines_not_faulty text s.before s.allowed more (subst (λ (c : List ℕ). length c ≤ 65536) s.bytes s.limit) whole;
+    }
 
 -- what a fault of a line becomes
 pub fault_is : (m n : ℕ) → Fault m ≡ Fault n → m ≡ n

@@ -48,6 +48,7 @@ pub fn assemble(alloc: Global, text: &Bytes) -> Result<Bytes, AsmEnd>
     ensures well_formed { IfOk result (λ code. IsWellFormed code.items) }
     ensures limit { IfOk result (λ code. length code.items ≤ 65536) }
     ensures text { IfOk result (λ code. text_of_code code.items ≡ text.now.items) }
+    ensures no_fault { OnOk result ((line : ℕ) → IsFaultyAt text.now.items line → ⊥) }
     ensures fault { (line : ℕ) → result ≡ Err (AsmEnd.Fault line) → IsFaultyAt text.now.items line }
 {
     let mut code = Bytes::new(alloc);

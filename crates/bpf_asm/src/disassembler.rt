@@ -3,11 +3,10 @@ ghost use Rattle.std.specs.Prelude.{◌≡◌, ◌*◌, ◌≤◌, ◌++◌, fal
 ghost use Rattle.bpf_model.specs.Walk.{IsWellFormed, is_well_formed, bad_place};
 ghost use Rattle.bpf_asm.specs.Text.{line_at, text_of_code};
 
-use crate::line::{LINE_ROOM, append_line};
+use crate::line::push_line;
 use bpf_decode::{DecodeEnd, decode};
 use bpf_isa::Insn;
 use cp_base::{Bytes, NoMemory};
-use cp_text::make_room;
 use std::alloc::Global;
 
 /// The one text of code of at most 65,536 bytes: a line for each instruction.
@@ -35,8 +34,8 @@ fn push_line_at(text: &mut Bytes, insn: Option<&Insn>) -> Result<(), DecodeEnd>
     ensures no_memory { IsOkUnless result DecodeEnd.NoMemory }
 {
     if let Some(insn) = insn {
-        match make_room(text, LINE_ROOM) {
-            Ok(()) => append_line(text, insn),
+        match push_line(text, insn) {
+            Ok(()) => {}
             Err(NoMemory) => return Err(DecodeEnd::NoMemory),
         }
     }

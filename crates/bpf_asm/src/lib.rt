@@ -14,4 +14,7 @@ mod source;
 pub use assembler::{AsmEnd, assemble};
 pub use disassembler::disassemble;
 pub use laws::{assembly_laws, lines_by_example};
-pub use line::{LINE_ROOM, append_line};
+pub use line::{LINE_ROOM, append_line, push_line};
+
+#[cfg(test)]
+mod tests;

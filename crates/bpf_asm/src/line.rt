@@ -8,7 +8,8 @@ ghost use Rattle.bpf_model.specs.Encoding.{alu_offset};
 use crate::mnemonic::Mnemonic;
 use crate::operand::{Operand, Operands, append_operands};
 use bpf_isa::{AluOp, Insn};
-use cp_base::Bytes;
+use cp_base::{Bytes, NoMemory};
+use cp_text::make_room;
 
 /// As much room as any line needs with its newline, in bytes.
 pub const LINE_ROOM: u64 = 76;
@@ -23,6 +24,20 @@ pub fn append_line(out: &mut Bytes, insn: &Insn)
     append_mnemonic(out, mnemonic(insn));
     append_operands(out, operands(insn));
     out.append(b"\n");
+}
+
+/// Adds the line of an instruction and its newline at the end. It is refused only where there is less room
+/// than `LINE_ROOM`.
+pub fn push_line(out: &mut Bytes, insn: &Insn) -> Result<(), NoMemory>
+    ensures items { OnOk result (out.new.items ≡ out.old.items ++ (line_of insn.now ++ 10 ∷ [])) }
+    ensures spare { OnOk result (LINE_ROOM ≤ out.old.spare
+        → out.new.spare + length (line_of insn.now) + 1 ≡ out.old.spare) }
+    ensures full { OnErr result (out.old.spare < LINE_ROOM) }
+    ensures unchanged { OnErr result (out.new ≡ out.old) }
+{
+    make_room(out, LINE_ROOM)?;
+    append_line(out, insn);
+    Ok(())
 }
 
 // Adds a mnemonic.
@@ -95,17 +110,17 @@ fn operands(insn: &Insn) -> Operands
             Operand::Number(move_bits(op)),
         ),
         Insn::ToLittle { bits, dst } | Insn::ToBig { bits, dst } | Insn::Swap { bits, dst } => {
-            Operands::Two(
-                Operand::Register(dst),
-                Operand::Number(bits.bits() as u64),
-            )
+            Operands::Two(Operand::Register(dst), Operand::Number(bits.bits() as u64))
         }
         Insn::Jump { offset } => Operands::One(Operand::Signed(offset as i64)),
         Insn::JumpLong { imm } | Insn::CallLocal { imm } => {
             Operands::One(Operand::Signed(imm as i64))
         }
         Insn::BranchImm {
-            dst, offset, imm, ..
+            dst,
+            offset,
+            imm,
+            ..
         } => Operands::Three(
             Operand::Register(dst),
             Operand::Signed(imm as i64),
@@ -117,36 +132,60 @@ fn operands(insn: &Insn) -> Operands
             Operands::Two(Operand::Register(dst), Operand::Number(value))
         }
         Insn::BranchReg {
-            dst, src, offset, ..
+            dst,
+            src,
+            offset,
+            ..
         }
         | Insn::Load {
-            dst, src, offset, ..
+            dst,
+            src,
+            offset,
+            ..
         }
         | Insn::LoadSigned {
-            dst, src, offset, ..
+            dst,
+            src,
+            offset,
+            ..
         } => Operands::Three(
             Operand::Register(dst),
             Operand::Register(src),
             Operand::Signed(offset as i64),
         ),
         Insn::StoreImm {
-            dst, offset, imm, ..
+            dst,
+            offset,
+            imm,
+            ..
         } => Operands::Three(
             Operand::Register(dst),
             Operand::Signed(offset as i64),
             Operand::Signed(imm as i64),
         ),
         Insn::StoreReg {
-            dst, src, offset, ..
+            dst,
+            src,
+            offset,
+            ..
         }
         | Insn::Atomic {
-            dst, src, offset, ..
+            dst,
+            src,
+            offset,
+            ..
         }
         | Insn::AtomicFetch {
-            dst, src, offset, ..
+            dst,
+            src,
+            offset,
+            ..
         }
         | Insn::CompareExchange {
-            dst, src, offset, ..
+            dst,
+            src,
+            offset,
+            ..
         } => Operands::Three(
             Operand::Register(dst),
             Operand::Signed(offset as i64),

@@ -62,32 +62,110 @@ pub enum Mnemonic {
 
 /// All mnemonics.
 pub const MNEMONICS: [Mnemonic; 98] = [
-    Mnemonic::Binary { op: AluOp::Add, wide: true },
-    Mnemonic::Binary { op: AluOp::Add, wide: false },
-    Mnemonic::Binary { op: AluOp::Sub, wide: true },
-    Mnemonic::Binary { op: AluOp::Sub, wide: false },
-    Mnemonic::Binary { op: AluOp::Mul, wide: true },
-    Mnemonic::Binary { op: AluOp::Mul, wide: false },
-    Mnemonic::Binary { op: AluOp::Or, wide: true },
-    Mnemonic::Binary { op: AluOp::Or, wide: false },
-    Mnemonic::Binary { op: AluOp::And, wide: true },
-    Mnemonic::Binary { op: AluOp::And, wide: false },
-    Mnemonic::Binary { op: AluOp::Lsh, wide: true },
-    Mnemonic::Binary { op: AluOp::Lsh, wide: false },
-    Mnemonic::Binary { op: AluOp::Rsh, wide: true },
-    Mnemonic::Binary { op: AluOp::Rsh, wide: false },
-    Mnemonic::Binary { op: AluOp::Xor, wide: true },
-    Mnemonic::Binary { op: AluOp::Xor, wide: false },
-    Mnemonic::Binary { op: AluOp::Arsh, wide: true },
-    Mnemonic::Binary { op: AluOp::Arsh, wide: false },
-    Mnemonic::Division { op: AluOp::Div, wide: true },
-    Mnemonic::Division { op: AluOp::Div, wide: false },
-    Mnemonic::Division { op: AluOp::Sdiv, wide: true },
-    Mnemonic::Division { op: AluOp::Sdiv, wide: false },
-    Mnemonic::Division { op: AluOp::Mod, wide: true },
-    Mnemonic::Division { op: AluOp::Mod, wide: false },
-    Mnemonic::Division { op: AluOp::Smod, wide: true },
-    Mnemonic::Division { op: AluOp::Smod, wide: false },
+    Mnemonic::Binary {
+        op: AluOp::Add,
+        wide: true,
+    },
+    Mnemonic::Binary {
+        op: AluOp::Add,
+        wide: false,
+    },
+    Mnemonic::Binary {
+        op: AluOp::Sub,
+        wide: true,
+    },
+    Mnemonic::Binary {
+        op: AluOp::Sub,
+        wide: false,
+    },
+    Mnemonic::Binary {
+        op: AluOp::Mul,
+        wide: true,
+    },
+    Mnemonic::Binary {
+        op: AluOp::Mul,
+        wide: false,
+    },
+    Mnemonic::Binary {
+        op: AluOp::Or,
+        wide: true,
+    },
+    Mnemonic::Binary {
+        op: AluOp::Or,
+        wide: false,
+    },
+    Mnemonic::Binary {
+        op: AluOp::And,
+        wide: true,
+    },
+    Mnemonic::Binary {
+        op: AluOp::And,
+        wide: false,
+    },
+    Mnemonic::Binary {
+        op: AluOp::Lsh,
+        wide: true,
+    },
+    Mnemonic::Binary {
+        op: AluOp::Lsh,
+        wide: false,
+    },
+    Mnemonic::Binary {
+        op: AluOp::Rsh,
+        wide: true,
+    },
+    Mnemonic::Binary {
+        op: AluOp::Rsh,
+        wide: false,
+    },
+    Mnemonic::Binary {
+        op: AluOp::Xor,
+        wide: true,
+    },
+    Mnemonic::Binary {
+        op: AluOp::Xor,
+        wide: false,
+    },
+    Mnemonic::Binary {
+        op: AluOp::Arsh,
+        wide: true,
+    },
+    Mnemonic::Binary {
+        op: AluOp::Arsh,
+        wide: false,
+    },
+    Mnemonic::Division {
+        op: AluOp::Div,
+        wide: true,
+    },
+    Mnemonic::Division {
+        op: AluOp::Div,
+        wide: false,
+    },
+    Mnemonic::Division {
+        op: AluOp::Sdiv,
+        wide: true,
+    },
+    Mnemonic::Division {
+        op: AluOp::Sdiv,
+        wide: false,
+    },
+    Mnemonic::Division {
+        op: AluOp::Mod,
+        wide: true,
+    },
+    Mnemonic::Division {
+        op: AluOp::Mod,
+        wide: false,
+    },
+    Mnemonic::Division {
+        op: AluOp::Smod,
+        wide: true,
+    },
+    Mnemonic::Division {
+        op: AluOp::Smod,
+        wide: false,
+    },
     Mnemonic::Move { wide: true },
     Mnemonic::Move { wide: false },
     Mnemonic::Negate { wide: true },
@@ -113,48 +191,168 @@ pub const MNEMONICS: [Mnemonic; 98] = [
     Mnemonic::StoreReg { size: Size::H },
     Mnemonic::StoreReg { size: Size::W },
     Mnemonic::StoreReg { size: Size::D },
-    Mnemonic::Atomic { op: AtomicOp::Add, size: Size::W },
-    Mnemonic::Atomic { op: AtomicOp::Add, size: Size::D },
-    Mnemonic::Atomic { op: AtomicOp::Or, size: Size::W },
-    Mnemonic::Atomic { op: AtomicOp::Or, size: Size::D },
-    Mnemonic::Atomic { op: AtomicOp::And, size: Size::W },
-    Mnemonic::Atomic { op: AtomicOp::And, size: Size::D },
-    Mnemonic::Atomic { op: AtomicOp::Xor, size: Size::W },
-    Mnemonic::Atomic { op: AtomicOp::Xor, size: Size::D },
-    Mnemonic::AtomicFetch { op: AtomicOp::Add, size: Size::W },
-    Mnemonic::AtomicFetch { op: AtomicOp::Add, size: Size::D },
-    Mnemonic::AtomicFetch { op: AtomicOp::Or, size: Size::W },
-    Mnemonic::AtomicFetch { op: AtomicOp::Or, size: Size::D },
-    Mnemonic::AtomicFetch { op: AtomicOp::And, size: Size::W },
-    Mnemonic::AtomicFetch { op: AtomicOp::And, size: Size::D },
-    Mnemonic::AtomicFetch { op: AtomicOp::Xor, size: Size::W },
-    Mnemonic::AtomicFetch { op: AtomicOp::Xor, size: Size::D },
-    Mnemonic::AtomicFetch { op: AtomicOp::Xchg, size: Size::W },
-    Mnemonic::AtomicFetch { op: AtomicOp::Xchg, size: Size::D },
+    Mnemonic::Atomic {
+        op: AtomicOp::Add,
+        size: Size::W,
+    },
+    Mnemonic::Atomic {
+        op: AtomicOp::Add,
+        size: Size::D,
+    },
+    Mnemonic::Atomic {
+        op: AtomicOp::Or,
+        size: Size::W,
+    },
+    Mnemonic::Atomic {
+        op: AtomicOp::Or,
+        size: Size::D,
+    },
+    Mnemonic::Atomic {
+        op: AtomicOp::And,
+        size: Size::W,
+    },
+    Mnemonic::Atomic {
+        op: AtomicOp::And,
+        size: Size::D,
+    },
+    Mnemonic::Atomic {
+        op: AtomicOp::Xor,
+        size: Size::W,
+    },
+    Mnemonic::Atomic {
+        op: AtomicOp::Xor,
+        size: Size::D,
+    },
+    Mnemonic::AtomicFetch {
+        op: AtomicOp::Add,
+        size: Size::W,
+    },
+    Mnemonic::AtomicFetch {
+        op: AtomicOp::Add,
+        size: Size::D,
+    },
+    Mnemonic::AtomicFetch {
+        op: AtomicOp::Or,
+        size: Size::W,
+    },
+    Mnemonic::AtomicFetch {
+        op: AtomicOp::Or,
+        size: Size::D,
+    },
+    Mnemonic::AtomicFetch {
+        op: AtomicOp::And,
+        size: Size::W,
+    },
+    Mnemonic::AtomicFetch {
+        op: AtomicOp::And,
+        size: Size::D,
+    },
+    Mnemonic::AtomicFetch {
+        op: AtomicOp::Xor,
+        size: Size::W,
+    },
+    Mnemonic::AtomicFetch {
+        op: AtomicOp::Xor,
+        size: Size::D,
+    },
+    Mnemonic::AtomicFetch {
+        op: AtomicOp::Xchg,
+        size: Size::W,
+    },
+    Mnemonic::AtomicFetch {
+        op: AtomicOp::Xchg,
+        size: Size::D,
+    },
     Mnemonic::CompareExchange { size: Size::W },
     Mnemonic::CompareExchange { size: Size::D },
-    Mnemonic::Branch { op: JumpOp::Jeq, wide: true },
-    Mnemonic::Branch { op: JumpOp::Jeq, wide: false },
-    Mnemonic::Branch { op: JumpOp::Jgt, wide: true },
-    Mnemonic::Branch { op: JumpOp::Jgt, wide: false },
-    Mnemonic::Branch { op: JumpOp::Jge, wide: true },
-    Mnemonic::Branch { op: JumpOp::Jge, wide: false },
-    Mnemonic::Branch { op: JumpOp::Jset, wide: true },
-    Mnemonic::Branch { op: JumpOp::Jset, wide: false },
-    Mnemonic::Branch { op: JumpOp::Jne, wide: true },
-    Mnemonic::Branch { op: JumpOp::Jne, wide: false },
-    Mnemonic::Branch { op: JumpOp::Jsgt, wide: true },
-    Mnemonic::Branch { op: JumpOp::Jsgt, wide: false },
-    Mnemonic::Branch { op: JumpOp::Jsge, wide: true },
-    Mnemonic::Branch { op: JumpOp::Jsge, wide: false },
-    Mnemonic::Branch { op: JumpOp::Jlt, wide: true },
-    Mnemonic::Branch { op: JumpOp::Jlt, wide: false },
-    Mnemonic::Branch { op: JumpOp::Jle, wide: true },
-    Mnemonic::Branch { op: JumpOp::Jle, wide: false },
-    Mnemonic::Branch { op: JumpOp::Jslt, wide: true },
-    Mnemonic::Branch { op: JumpOp::Jslt, wide: false },
-    Mnemonic::Branch { op: JumpOp::Jsle, wide: true },
-    Mnemonic::Branch { op: JumpOp::Jsle, wide: false },
+    Mnemonic::Branch {
+        op: JumpOp::Jeq,
+        wide: true,
+    },
+    Mnemonic::Branch {
+        op: JumpOp::Jeq,
+        wide: false,
+    },
+    Mnemonic::Branch {
+        op: JumpOp::Jgt,
+        wide: true,
+    },
+    Mnemonic::Branch {
+        op: JumpOp::Jgt,
+        wide: false,
+    },
+    Mnemonic::Branch {
+        op: JumpOp::Jge,
+        wide: true,
+    },
+    Mnemonic::Branch {
+        op: JumpOp::Jge,
+        wide: false,
+    },
+    Mnemonic::Branch {
+        op: JumpOp::Jset,
+        wide: true,
+    },
+    Mnemonic::Branch {
+        op: JumpOp::Jset,
+        wide: false,
+    },
+    Mnemonic::Branch {
+        op: JumpOp::Jne,
+        wide: true,
+    },
+    Mnemonic::Branch {
+        op: JumpOp::Jne,
+        wide: false,
+    },
+    Mnemonic::Branch {
+        op: JumpOp::Jsgt,
+        wide: true,
+    },
+    Mnemonic::Branch {
+        op: JumpOp::Jsgt,
+        wide: false,
+    },
+    Mnemonic::Branch {
+        op: JumpOp::Jsge,
+        wide: true,
+    },
+    Mnemonic::Branch {
+        op: JumpOp::Jsge,
+        wide: false,
+    },
+    Mnemonic::Branch {
+        op: JumpOp::Jlt,
+        wide: true,
+    },
+    Mnemonic::Branch {
+        op: JumpOp::Jlt,
+        wide: false,
+    },
+    Mnemonic::Branch {
+        op: JumpOp::Jle,
+        wide: true,
+    },
+    Mnemonic::Branch {
+        op: JumpOp::Jle,
+        wide: false,
+    },
+    Mnemonic::Branch {
+        op: JumpOp::Jslt,
+        wide: true,
+    },
+    Mnemonic::Branch {
+        op: JumpOp::Jslt,
+        wide: false,
+    },
+    Mnemonic::Branch {
+        op: JumpOp::Jsle,
+        wide: true,
+    },
+    Mnemonic::Branch {
+        op: JumpOp::Jsle,
+        wide: false,
+    },
     Mnemonic::Jump,
     Mnemonic::JumpLong,
     Mnemonic::CallHelper,

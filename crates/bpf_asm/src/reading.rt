@@ -79,7 +79,11 @@ fn dst_offset_src(text: Option<&[u8]>, greatest: u8) -> Option<(Reg, i16, Reg)>
     ensures { result ≡ spec.dst_offset_src greatest (parts_in 32 (option_map (λ t. t.now) text.entry)) }
 {
     let (dst, distance, src) = three(text)?;
-    Some((register(dst, 10)?, offset(distance)?, register(src, greatest)?))
+    Some((
+        register(dst, 10)?,
+        offset(distance)?,
+        register(src, greatest)?,
+    ))
 }
 
 // Arithmetic, but divisions and moves.
@@ -184,7 +188,12 @@ fn load(size: Size, text: Option<&[u8]>) -> Option<Insn>
     ensures { result ≡ insn_of (Mnemonic.Load size) (parts_in 32 (option_map (λ t. t.now) text.entry)) }
 {
     let (dst, src, offset) = dst_src_offset(text)?;
-    Some(Insn::Load { size, dst, src, offset })
+    Some(Insn::Load {
+        size,
+        dst,
+        src,
+        offset,
+    })
 }
 
 // Load that sign-extends.
@@ -192,7 +201,12 @@ fn load_signed(size: Size, text: Option<&[u8]>) -> Option<Insn>
     ensures { result ≡ insn_of (Mnemonic.LoadSigned size) (parts_in 32 (option_map (λ t. t.now) text.entry)) }
 {
     let (dst, src, offset) = dst_src_offset(text)?;
-    Some(Insn::LoadSigned { size, dst, src, offset })
+    Some(Insn::LoadSigned {
+        size,
+        dst,
+        src,
+        offset,
+    })
 }
 
 // Store of an immediate.
@@ -203,7 +217,12 @@ fn store_imm(size: Size, text: Option<&[u8]>) -> Option<Insn>
     let dst = register(dst, 10)?;
     let offset = offset(distance)?;
     let imm = imm(value)?;
-    Some(Insn::StoreImm { size, dst, offset, imm })
+    Some(Insn::StoreImm {
+        size,
+        dst,
+        offset,
+        imm,
+    })
 }
 
 // Store of a register.
@@ -211,7 +230,12 @@ fn store_reg(size: Size, text: Option<&[u8]>) -> Option<Insn>
     ensures { result ≡ insn_of (Mnemonic.StoreReg size) (parts_in 32 (option_map (λ t. t.now) text.entry)) }
 {
     let (dst, offset, src) = dst_offset_src(text, 10)?;
-    Some(Insn::StoreReg { size, dst, src, offset })
+    Some(Insn::StoreReg {
+        size,
+        dst,
+        src,
+        offset,
+    })
 }
 
 // Atomic operation without the fetch of the old value.
@@ -219,7 +243,13 @@ fn atomic(op: AtomicOp, size: Size, text: Option<&[u8]>) -> Option<Insn>
     ensures { result ≡ insn_of (Mnemonic.Atomic op size) (parts_in 32 (option_map (λ t. t.now) text.entry)) }
 {
     let (dst, offset, src) = dst_offset_src(text, 10)?;
-    Some(Insn::Atomic { op, size, dst, src, offset })
+    Some(Insn::Atomic {
+        op,
+        size,
+        dst,
+        src,
+        offset,
+    })
 }
 
 // Atomic operation or exchange that fetches the old value into the source.
@@ -227,7 +257,13 @@ fn atomic_fetch(op: AtomicOp, size: Size, text: Option<&[u8]>) -> Option<Insn>
     ensures { result ≡ insn_of (Mnemonic.AtomicFetch op size) (parts_in 32 (option_map (λ t. t.now) text.entry)) }
 {
     let (dst, offset, src) = dst_offset_src(text, 9)?;
-    Some(Insn::AtomicFetch { op, size, dst, src, offset })
+    Some(Insn::AtomicFetch {
+        op,
+        size,
+        dst,
+        src,
+        offset,
+    })
 }
 
 // Compare and exchange.
@@ -235,7 +271,12 @@ fn compare_exchange(size: Size, text: Option<&[u8]>) -> Option<Insn>
     ensures { result ≡ insn_of (Mnemonic.CompareExchange size) (parts_in 32 (option_map (λ t. t.now) text.entry)) }
 {
     let (dst, offset, src) = dst_offset_src(text, 10)?;
-    Some(Insn::CompareExchange { size, dst, src, offset })
+    Some(Insn::CompareExchange {
+        size,
+        dst,
+        src,
+        offset,
+    })
 }
 
 // Conditional jump.
@@ -247,8 +288,20 @@ fn branch(op: JumpOp, wide: bool, text: Option<&[u8]>) -> Option<Insn>
     let source = Source::of(source)?;
     let offset = offset(distance)?;
     Some(match source {
-        Source::Register(src) => Insn::BranchReg { op, wide, dst, src, offset },
-        Source::Immediate(imm) => Insn::BranchImm { op, wide, dst, offset, imm },
+        Source::Register(src) => Insn::BranchReg {
+            op,
+            wide,
+            dst,
+            src,
+            offset,
+        },
+        Source::Immediate(imm) => Insn::BranchImm {
+            op,
+            wide,
+            dst,
+            offset,
+            imm,
+        },
     })
 }
 

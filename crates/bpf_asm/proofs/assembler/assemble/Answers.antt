@@ -41,7 +41,7 @@ returns-clause-well_formed c =
     same_small c.as_slice-bytes.result.now c.lines.code.items c.as_slice-bytes.ensures (λ k. search rules) in
     let none : c.lines.rest.now ≡ [] = empty_list c.lines.rest.now (grind (arith, c.if-not-is_empty.ensures)) in
     let some : c.lines.code.items ≡ [] → ⊥ = λ e. let len : length c.as_slice-bytes.result.now ≡ 0 = ap length (c.as_slice-bytes.ensures ∙ e) in absurd (grind (arith, len, c.if-is_empty.ensures)) in
-    (all_assembled c.args.text.now.items c.lines.rest.now c.lines.code.items c.lines.line small c.lines.invariant none some).0
+    (all_assembled c.args.text.now.items c.lines.rest.now c.lines.code.items c.lines.line small c.lines.invariant none some).well_formed
 
 pub returns-clause-text : goal.returns-clause-text
 returns-clause-text c =
@@ -49,4 +49,12 @@ returns-clause-text c =
     same_small c.as_slice-bytes.result.now c.lines.code.items c.as_slice-bytes.ensures (λ k. search rules) in
     let none : c.lines.rest.now ≡ [] = empty_list c.lines.rest.now (grind (arith, c.if-not-is_empty.ensures)) in
     let some : c.lines.code.items ≡ [] → ⊥ = λ e. let len : length c.as_slice-bytes.result.now ≡ 0 = ap length (c.as_slice-bytes.ensures ∙ e) in absurd (grind (arith, len, c.if-is_empty.ensures)) in
-    (all_assembled c.args.text.now.items c.lines.rest.now c.lines.code.items c.lines.line small c.lines.invariant none some).1
+    (all_assembled c.args.text.now.items c.lines.rest.now c.lines.code.items c.lines.line small c.lines.invariant none some).same_text
+
+pub returns-clause-no_fault : goal.returns-clause-no_fault
+returns-clause-no_fault c =
+    let small : (k : ℕ) → slice_index c.lines.code.items k < 256 =
+    same_small c.as_slice-bytes.result.now c.lines.code.items c.as_slice-bytes.ensures (λ k. search rules) in
+    let none : c.lines.rest.now ≡ [] = empty_list c.lines.rest.now (grind (arith, c.if-not-is_empty.ensures)) in
+    let some : c.lines.code.items ≡ [] → ⊥ = λ e. let len : length c.as_slice-bytes.result.now ≡ 0 = ap length (c.as_slice-bytes.ensures ∙ e) in absurd (grind (arith, len, c.if-is_empty.ensures)) in
+    (all_assembled c.args.text.now.items c.lines.rest.now c.lines.code.items c.lines.line small c.lines.invariant none some).no_fault
