@@ -1,9 +1,12 @@
+pub mod Alongside
 pub mod Atomic
 pub mod BothWays
 pub mod Decoded
+pub mod Windows
 pub mod Read
 pub mod Remainder
 pub mod Steps
 pub mod Swap
 pub mod Tables
 pub mod Value
+pub mod Writing
