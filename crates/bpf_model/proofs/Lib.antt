@@ -1,12 +1,13 @@
+pub mod Address
 pub mod Alongside
 pub mod Atomic
 pub mod BothWays
 pub mod Decoded
-pub mod Windows
 pub mod Read
 pub mod Remainder
 pub mod Steps
 pub mod Swap
 pub mod Tables
 pub mod Value
+pub mod Windows
 pub mod Writing

@@ -12,7 +12,7 @@ mod runs;
 mod values;
 mod walks;
 
-pub use addresses::{Place, example_addresses};
+pub use addresses::{Place, addresses_are_resolved, example_addresses};
 pub use fields::Fields;
 pub use forms::{example_forms, forms_are_encodings};
 pub use frames::SavedFrame;
