@@ -130,9 +130,10 @@ module _ (r s : List MemRange) (a b : Memory) (alike : Alike r s) (agree : Agree
             ∙ (agree i k less
             ∙ sym (written-outside b (range_at s index).ns ((range_at s index).at + offset) bytes (range_at s i).ns ((range_at s i).at + k)
             (λ d d_less same there.
-                let m = alike.back i index k (offset + d) less (omega arith) same (omega arith) in
-                out d d_less m.0 (omega (arith, m.1)))))
+            let m = alike.back i index k (offset + d) less (omega arith) same (omega arith) in
+            out d d_less m.0 (omega (arith, m.1)))))
       ]
+
       outside : (ns k : ℕ) → (Covers r ns k → ⊥) → with_bytes a (range_at r index).ns ((range_at r index).at + offset) bytes ns k ≡ a ns k
       outside ns k out = written-outside a (range_at r index).ns ((range_at r index).at + offset) bytes ns k
           (λ d d_less same there. out (index, (offset + d, omega arith, sym same, omega arith)))
@@ -203,6 +204,7 @@ module _ (r s : List MemRange) (a b : Memory) (alike : Alike r s) (agree : Agree
           (subst (λ (y : Machine). Along r s a b (next (put (fetch old m') r a')) (next y)) (sym (keeps old m' s b'))
           (go (fetch old m') (pos ((fetch old m').counter + 1)) a' b' kept))
       by_store old _ _ not_done = ended (BadAccess m.counter)
+
       by_number : (o : Option ℕ) → Along r s a b
           (accessed (put m r a) (option_and_then (λ old. option_map (λ m'. next (fetch old m')) (stored (put m r a) at size (stored_by op size old source (register m 0)))) o))
           (accessed (put m s b) (option_and_then (λ old. option_map (λ m'. next (fetch old m')) (stored (put m s b) at size (stored_by op size old source (register m 0)))) o))
@@ -218,7 +220,7 @@ module _ (r s : List MemRange) (a b : Memory) (alike : Alike r s) (agree : Agree
 
   call-along : (m : Machine) (distance : ℤ) → Along r s a b (call (put m r a) distance) (call (put m s b) distance)
   call-along m distance = by_depth (record (with_register m 10 (frame_pointer (length m.frames + 1))) {
-    frames = record { registers = drop 6 m.registers; return_place = m.counter + 1 } ∷ m.frames
+    frames = record { registers = drop 6 m.registers; return_place = m.counter + 1 } ∷ m.frames;
   }) (nat_lt (length m.frames) deepest_frame)
     where
       by_depth : (m' : Machine) (shallow : Bool) → Along r s a b (if shallow then jump (put m' r a) distance else Ends (CallDepth m.counter))

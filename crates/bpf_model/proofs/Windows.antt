@@ -36,7 +36,7 @@ pub local-memory : (program : Program) (r : List MemRange) (a b : Memory) (p1 p2
     → (ns offset : ℕ) → Covers r ns offset → (outcome program r a p1 p2 budget).memory ns offset ≡ (outcome program r b p1 p2 budget).memory ns offset
 local-memory program r a b p1 p2 budget same ns offset (i, (k, less, here, there)) =
     let agree : (outcome program r a p1 p2 budget).memory (range_at r i).ns ((range_at r i).at + k)
-        ≡ (outcome program r b p1 p2 budget).memory (range_at r i).ns ((range_at r i).at + k) =
+    ≡ (outcome program r b p1 p2 budget).memory (range_at r i).ns ((range_at r i).at + k) =
     (local program r a b p1 p2 budget same).kept.agree i k less in
     subst (λ (n : ℕ). (outcome program r a p1 p2 budget).memory n offset ≡ (outcome program r b p1 p2 budget).memory n offset) here
     (subst (λ (o : ℕ). (outcome program r a p1 p2 budget).memory (range_at r i).ns o ≡ (outcome program r b p1 p2 budget).memory (range_at r i).ns o) there agree)
