@@ -1,5 +1,5 @@
 //! Numbers of 1, 2, 4 or 8 bytes in little-endian order.
-ghost use Rattle.std.specs.Prelude.{◌≡◌, ◌+◌, ◌≤◌, length, take};
+ghost use Rattle.std.specs.Prelude.{◌≡◌, ◌+◌, ◌*◌, ◌^◌, ◌<◌, ◌≤◌, length, take};
 ghost use Rattle.byteorder.specs.Endian.{little_number, little_bytes};
 ghost use Rattle.cp_base.specs.Pieces.{piece, patched};
 ghost use Rattle.bpf_isa.specs.Size.{bytes_of};
@@ -11,7 +11,8 @@ use cp_base::Bytes;
 /// The number of this size that the bytes have from an offset on.
 pub(crate) fn number_at(bytes: &Bytes, offset: usize, size: Size) -> u64
     requires { offset + bytes_of size ≤ length bytes.now.items }
-    ensures { result ≡ little_number (bytes_of size) (piece bytes.now.items offset (bytes_of size)) }
+    ensures number { result ≡ little_number (bytes_of size) (piece bytes.now.items offset (bytes_of size)) }
+    ensures fits { result < 2 ^ (8 * bytes_of size) }
 {
     let bytes = bytes.as_slice();
     match size {

@@ -1,5 +1,6 @@
 //! The view.
-ghost use Rattle.std.specs.Prelude.{◌≡◌, ◌^◌, ◌<◌, ◌≤◌, length, map, All, Some, None, MatchOption};
+ghost use Rattle.std.specs.Prelude.{◌≡◌, ◌*◌, ◌^◌, ◌<◌, ◌≤◌, length, map, All, Some, None, IfSome, MatchOption};
+ghost use Rattle.bpf_isa.specs.Size.{bytes_of};
 ghost use Rattle.bpf_model.specs.Address.{stack_len};
 ghost use Rattle.confined_view.specs.Touched.{contents_of, loaded, stored, length_of_range};
 
@@ -61,7 +62,8 @@ impl View {
     /// The number at an address, in little-endian order and with zeros above it. `None` where the access
     /// lies wholly neither in a range nor in the stack.
     pub fn load(&self, address: u64, size: Size) -> Option<u64>
-        ensures { result ≡ loaded self.now address size }
+        ensures number { result ≡ loaded self.now address size }
+        ensures fits { IfSome result (λ number. number < 2 ^ (8 * bytes_of size)) }
     {
         match place_in(&self.windows, address, size) {
             Place::InRange { index, offset } => Some(number_at(&self.windows[index], offset, size)),

@@ -21,9 +21,9 @@ number_at-requires c =
 pub number_at-requires-in-InStack : goal.number_at-requires-in-InStack
 number_at-requires-in-InStack c = let fits = fits_stack _ c.args.address (bytes_of c.args.size) c.in-InStack.offset c.in-InStack.ensures in omega (arith, fits)
 
-pub returns-in-InRange : goal.returns-in-InRange
-returns-in-InRange c =
+pub returns-in-InRange-clause-number : goal.returns-in-InRange-clause-number
+returns-in-InRange-clause-number c =
     let in_range : InRange c.in-InRange.index c.in-InRange.offset ≡ resolve (map length (contents_of c.self.inside.windows.items)) c.args.address (bytes_of c.args.size) =
         subst (λ (ws : List Buffer). InRange c.in-InRange.index c.in-InRange.offset ≡ resolve (map length (contents_of ws)) c.args.address (bytes_of c.args.size)) c.deref.ensures.value c.in-InRange.ensures in
     let is = loaded_in_range _ c.self.inside.stack.items c.args.address c.args.size c.in-InRange.index c.in-InRange.offset c.index.result.now in_range c.index.ensures in
-    ap (λ (n : ℕ). Some n) c.number_at.ensures ∙ sym is ∙ ap (λ (t : Touched). loaded t c.args.address c.args.size) c.self.view_is
+    ap (λ (n : ℕ). Some n) c.number_at.ensures.number ∙ sym is ∙ ap (λ (t : Touched). loaded t c.args.address c.args.size) c.self.view_is
