@@ -35,7 +35,7 @@ length-bytes_low_first : (i k n : ℕ) → length (bytes_low_first i k n) ≡ k
 length-bytes_low_first i zero n = refl
 length-bytes_low_first i (suc k) n = ap suc (length-bytes_low_first (suc i) k n)
 
-length-little_bytes : (size : Size) (value : ℕ) → length (little_bytes (bytes_of size) value) ≡ bytes_of size
+pub length-little_bytes : (size : Size) (value : ℕ) → length (little_bytes (bytes_of size) value) ≡ bytes_of size
 length-little_bytes size value = length-bytes_low_first 0 (bytes_of size) value
 
 -- ranges of the same lengths, where two bytes of ranges are one byte in both lists or in none

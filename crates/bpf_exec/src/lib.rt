@@ -1,0 +1,8 @@
+//! The interpreter of BPF programs.
+#![tactic(auto)]
+
+mod access;
+mod arithmetic;
+mod calls;
+mod jumps;
+mod processor;
