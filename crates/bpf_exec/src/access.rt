@@ -74,7 +74,9 @@ impl Processor {
             atomic_access (machine_of self.now view.old) op address size source fetch ≡ accessed m (option_map (λ old. next (fetch old m)) result) }
         ensures unchanged { IfNone result (view.new ≡ view.old) }
     {
-        let old = view.load(address, size)?;
+        let Some(old) = view.load(address, size) else {
+            return None;
+        };
         let new = atomic_new(op, size, old, source, self.registers[0]);
         view.store(address, size, new)?;
         Some(old)
@@ -93,18 +95,33 @@ impl Processor {
         }
     }
 
-    /// An atomic operation that puts the old value into a register.
+    /// An atomic operation that puts the old value into its source.
     #[inline(always)]
-    pub fn fetch(&mut self, view: &mut View, op: AtomicOp, size: Size, address: u64, src: Reg, dst: Reg) -> Next
+    pub fn fetch(&mut self, view: &mut View, op: AtomicOp, size: Size, address: u64, src: Reg) -> Next
         requires { IsTrue (is_atomic_size size) }
-        ensures effect { atomic_access (machine_of self.old view.old) op address size (slice_index self.old.registers src) (λ old m. with_register m dst old)
+        ensures effect { atomic_access (machine_of self.old view.old) op address size (slice_index self.old.registers src) (λ old m. with_register m src old)
             ≡ effect_of result self.new view.new }
         ensures at_end { LeavesAtEnd result view.old view.new }
     {
         let Some(old) = self.update(view, op, size, address, self.get(src)) else {
             return Next::Ended(End::BadAccess(self.place));
         };
-        self.set(dst, old);
+        self.set(src, old);
+        Next::At(self.next())
+    }
+
+    /// A compare and exchange, which puts the old value into R0.
+    #[inline(always)]
+    pub fn exchange(&mut self, view: &mut View, size: Size, address: u64, src: Reg) -> Next
+        requires { IsTrue (is_atomic_size size) }
+        ensures effect { atomic_access (machine_of self.old view.old) AtomicOp.Cmpxchg address size (slice_index self.old.registers src) (λ old m. with_register m 0 old)
+            ≡ effect_of result self.new view.new }
+        ensures at_end { LeavesAtEnd result view.old view.new }
+    {
+        let Some(old) = self.update(view, AtomicOp::Cmpxchg, size, address, self.get(src)) else {
+            return Next::Ended(End::BadAccess(self.place));
+        };
+        self.registers[0] = old;
         Next::At(self.next())
     }
 }

@@ -4,5 +4,6 @@
 mod access;
 mod arithmetic;
 mod calls;
+mod execute;
 mod jumps;
 mod processor;

@@ -1,5 +1,6 @@
 //! The state of a program between two instructions, beside the bytes that it may touch.
-ghost use Rattle.std.specs.Prelude.{◌<◌, ◌≤◌};
+ghost use Rattle.std.specs.Prelude.{◌≡◌, ◌<◌, ◌≤◌};
+ghost use Rattle.bpf_model.specs.Value.{unsigned};
 
 use bpf_isa::{End, Reg};
 use bpf_model::SavedFrame;
@@ -32,12 +33,10 @@ pub(crate) struct Processor {
 }
 
 impl Processor {
-    ghost use Rattle.std.specs.Prelude.{◌≡◌, ◌+◌, ◌%◌, ◌^◌, ℤ, pos, ◌+ℤ◌, slice_index, slice_set};
-    ghost use Rattle.bpf_model.specs.Machine.{entry_machine, register, with_register};
-    ghost use Rattle.bpf_model.specs.Step.{address, jump, next, Goes};
-    ghost use Rattle.bpf_model.specs.Value.{unsigned};
+    ghost use Rattle.std.specs.Prelude.{◌+◌, ◌%◌, ◌^◌, ℤ, pos, ◌+ℤ◌, slice_index, slice_set};
+    ghost use Rattle.bpf_model.specs.Machine.{with_register};
     ghost use Rattle.confined_view.specs.Touched.{Touched};
-    ghost use Rattle.bpf_exec.specs.Seen.{machine_of, ranges_of, memory_of};
+    ghost use Rattle.bpf_exec.specs.Seen.{machine_of};
 
     /// What a register holds.
     #[inline(always)]
@@ -74,14 +73,11 @@ impl Processor {
     /// The address that an offset from a register makes.
     #[inline(always)]
     pub fn address(&self, base: Reg, offset: i16) -> u64
-        ensures { (t : Touched) → result ≡ address (machine_of self.now t) base offset }
+        ensures { result ≡ (slice_index self.now.registers base + unsigned 64 offset) % 2 ^ 64 }
     {
         self.get(base).wrapping_add(operand(i32::from(offset)))
     }
 }
-
-ghost use Rattle.std.specs.Prelude.{◌≡◌};
-ghost use Rattle.bpf_model.specs.Value.{unsigned};
 
 /// An immediate as an operand, sign-extended to 64 bits.
 #[inline(always)]

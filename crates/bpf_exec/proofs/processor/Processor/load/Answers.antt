@@ -7,4 +7,4 @@ pub returns : goal.returns
 returns c =
     let there : to_z w64 (of_z w64 c.next.result) ≡ pos (c.set.new.self.place + 1) = omega (arith, ints) in
     load_done c.args.self.now c.set.new.self c.args.view.now c.args.address c.args.size c.args.dst (λ n. n) c.in-Some.number (to_z w64 (of_z w64 c.next.result))
-    c.in-Some.ensures (c.set.ensures c.args.view.now) there
+    c.in-Some.ensures.number (c.set.ensures c.args.view.now) there

@@ -11,5 +11,5 @@ pub returns : goal.returns
 returns c =
     let there : to_z w64 (of_z w64 c.next.result) ≡ pos (c.set.new.self.place + 1) = omega (arith, ints) in
     load_done c.args.self.now c.set.new.self c.args.view.now c.args.address c.args.size c.args.dst (λ n. sign_extended (8 * bytes_of c.args.size) 64 n) c.in-Some.number
-    (to_z w64 (of_z w64 c.next.result)) c.in-Some.ensures
+    (to_z w64 (of_z w64 c.next.result)) c.in-Some.ensures.number
     (c.set.ensures c.args.view.now ∙ ap (λ (n : ℕ). with_register (machine_of c.args.self.now c.args.view.now) c.args.dst n) c.extended.ensures) there
