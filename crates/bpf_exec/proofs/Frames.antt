@@ -1,13 +1,21 @@
 -- Saved frames: a call saves one, and its return takes it back.
-use Rattle.std.proofs.Common.{◌≡◌, ℕ, ◌<◌, ◌≤◌, ◌+◌, ◌-◌, ℤ, pos, ◌+ℤ◌, Bool, true, List, [], ◌∷◌, length, drop, set, refl, sym, ap, ◌∙◌, arith, length-drop}
+use Rattle.std.proofs.Common.{◌≡◌, ℕ, ◌<◌, ◌≤◌, ◌+◌, ◌-◌, ℤ, pos, ◌+ℤ◌, Bool, true, List, [], ◌∷◌, length, take, drop, set, refl, sym, ap, ◌∙◌, arith, length-drop}
 use Rattle.std.proofs.lemmas.Bool.{lt-ltb}
 use Rattle.std.proofs.lemmas.List.{drop-set}
+use Rattle.std.proofs.Math.Seq.{take-length}
 use Rattle.std.specs.Prelude.{nat_lt, if◌then◌else◌}
 use Rattle.bpf_isa.specs.declared.end.End.TheVariants.{CallDepth}
 use Rattle.bpf_model.specs.declared.frames.SavedFrame.{SavedFrame}
 use Rattle.bpf_model.specs.Machine.{Machine, frame_pointer, with_register}
 use Rattle.bpf_model.specs.Step.{Effect, Goes, Ends, call, jump}
 
+-- R6 to R10 are all registers from R6 on
+pub from_r6 : (registers : List ℕ) → length registers ≡ 11 → take 5 (drop 6 registers) ≡ drop 6 registers
+from_r6 registers len =
+    let count : 5 ≡ length (drop 6 registers) = omega (arith, length-drop 6 registers) in
+    ap (λ (n : ℕ). take n (drop 6 registers)) count ∙ take-length (drop 6 registers)
+
+-- a call of a local function
 pub call_saves : (m : Machine) (frames : List SavedFrame) (free : ℕ) (distance target : ℤ) (registers : List ℕ) (pointer : ℕ)
     → m.frames ≡ drop free frames → 0 < free → free ≤ 7 → length frames ≡ 7 → registers ≡ drop 6 m.registers → pointer ≡ frame_pointer (7 - (free - 1))
     → target ≡ pos (m.counter + 1) +ℤ distance

@@ -29,17 +29,21 @@ use Rattle.bpf_exec.specs.declared.processor.Processor.{Processor}
 
 -- ---- the ranges
 
+-- a range without bytes
+abbrev none : MemRange
+none = record { ns = 0; at = 0; len = 0 }
+
 pub lengths_from : (from : ℕ) (ws : List (List ℕ)) → lengths_of (ranges_from from ws) ≡ map (length {A = ℕ}) ws
 lengths_from from [] = refl
 lengths_from from (w ∷ ws) = let rest = lengths_from (suc from) ws in ap (λ (ls : List ℕ). length w ∷ ls) rest
 
-pub range_from : (from : ℕ) (ws : List (List ℕ)) (i : ℕ) → i < length ws
-    → range_at (ranges_from from ws) i ≡ record { ns = from + i; at = 0; len = length (get_or ws i []) }
-range_from from [] i less = absurd (omega arith)
-range_from from (w ∷ ws) zero less = let e : from ≡ from + 0 = omega arith in ap (λ (n : ℕ). record { ns = n; at = 0; len = length w }) e
-range_from from (w ∷ ws) (suc i) less =
+pub range_from : (from : ℕ) (ws : List (List ℕ)) (i : ℕ) (d : MemRange) → i < length ws
+    → get_or (ranges_from from ws) i d ≡ record { ns = from + i; at = 0; len = length (get_or ws i []) }
+range_from from [] i d less = absurd (omega arith)
+range_from from (w ∷ ws) zero d less = let e : from ≡ from + 0 = omega arith in ap (λ (n : ℕ). record { ns = n; at = 0; len = length w }) e
+range_from from (w ∷ ws) (suc i) d less =
     let e : suc from + i ≡ from + suc i = omega arith in
-    range_from (suc from) ws i (omega arith) ∙ ap (λ (n : ℕ). record { ns = n; at = 0; len = length (get_or ws i []) }) e
+    range_from (suc from) ws i d (omega arith) ∙ ap (λ (n : ℕ). record { ns = n; at = 0; len = length (get_or ws i []) }) e
 
 pub ranges_from-lengths : (from : ℕ) (ws vs : List (List ℕ)) → map (length {A = ℕ}) ws ≡ map (length {A = ℕ}) vs → ranges_from from ws ≡ ranges_from from vs
 ranges_from-lengths from [] [] e = refl
@@ -79,7 +83,7 @@ in_window t at n i offset e =
 
 -- ---- reads
 
-piece_from : (ws : List (List ℕ)) (i offset n : ℕ) → offset + n ≤ length (get_or ws i [])
+pub piece_from : (ws : List (List ℕ)) (i offset n : ℕ) → offset + n ≤ length (get_or ws i [])
     → bytes_from (memory_of ws) i offset n ≡ piece (get_or ws i []) offset n
 piece_from ws i offset zero room = refl
 piece_from ws i offset (suc n) room =
@@ -93,7 +97,7 @@ bytes_seen : (p : Processor) (t : Touched) (place : Place) (at n : ℕ) → reso
     → step.bytes_at (machine_of p t) place n ≡ touched.bytes_at t place n
 bytes_seen p t (InRange i offset) at n e =
     let room = in_window t at n i offset e in
-    ap (λ (r : MemRange). Some (bytes_from (memory_of t.windows) r.ns (r.at + offset) n)) (range_from 0 t.windows i room.0)
+    ap (λ (r : MemRange). Some (bytes_from (memory_of t.windows) r.ns (r.at + offset) n)) (range_from 0 t.windows i none room.0)
     ∙ (ap (λ (o : ℕ). Some (bytes_from (memory_of t.windows) (0 + i) o n)) (omega arith)
     ∙ (ap (λ (j : ℕ). Some (bytes_from (memory_of t.windows) j offset n)) (omega arith)
     ∙ (ap (λ (bs : List ℕ). Some bs) (piece_from t.windows i offset n room.1)
@@ -188,7 +192,7 @@ patched_seen p t (InRange i offset) at n bytes len e =
     let ws : List (List ℕ) = t.windows in
     let new : List (List ℕ) = set ws i (patched (get_or ws i []) offset bytes) in
     let put : List MemRange → Memory → Option Machine = λ rs memory. Some (record (machine_of p t) { ranges = rs; memory = memory }) in
-    ap (λ (r : MemRange). put (ranges_of ws) (with_bytes (memory_of ws) r.ns (r.at + offset) bytes)) (range_from 0 ws i room.0)
+    ap (λ (r : MemRange). put (ranges_of ws) (with_bytes (memory_of ws) r.ns (r.at + offset) bytes)) (range_from 0 ws i none room.0)
     ∙ (ap (λ (o : ℕ). put (ranges_of ws) (with_bytes (memory_of ws) (0 + i) o bytes)) (omega arith)
     ∙ (ap (λ (j : ℕ). put (ranges_of ws) (with_bytes (memory_of ws) j offset bytes)) (omega arith)
     ∙ (ap (λ (memory : Memory). put (ranges_of ws) memory) (memory_patched ws i offset bytes room.0 (omega arith))

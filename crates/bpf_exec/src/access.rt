@@ -1,5 +1,5 @@
 //! Loads, stores and atomic operations.
-ghost use Rattle.std.specs.Prelude.{◌≡◌, ℕ, ◌*◌, IsTrue, IfNone, option_map, slice_index};
+ghost use Rattle.std.specs.Prelude.{◌≡◌, ℕ, ◌*◌, IsTrue, IfNone, length, map, option_map, slice_index};
 ghost use Rattle.bpf_isa.specs.Size.{bytes_of};
 ghost use Rattle.bpf_model.specs.Encoding.{is_atomic_size};
 ghost use Rattle.bpf_model.specs.Machine.{Machine, with_register};
@@ -58,6 +58,7 @@ impl Processor {
     pub fn store(&self, view: &mut View, size: Size, address: u64, value: u64) -> Next
         ensures effect { store (machine_of self.now view.old) address size value ≡ effect_of result self.now view.new }
         ensures at_end { LeavesAtEnd result view.old view.new }
+        ensures lengths { map length view.new.windows ≡ map length view.old.windows }
     {
         match view.store(address, size, value) {
             Some(()) => Next::At(self.next()),
@@ -73,6 +74,7 @@ impl Processor {
         ensures effect { (fetch : ℕ → Machine → Machine) → let m = machine_of self.now view.new in
             atomic_access (machine_of self.now view.old) op address size source fetch ≡ accessed m (option_map (λ old. next (fetch old m)) result) }
         ensures unchanged { IfNone result (view.new ≡ view.old) }
+        ensures lengths { map length view.new.windows ≡ map length view.old.windows }
     {
         let Some(old) = view.load(address, size) else {
             return None;
@@ -88,6 +90,7 @@ impl Processor {
         requires { IsTrue (is_atomic_size size) }
         ensures effect { atomic_access (machine_of self.now view.old) op address size (slice_index self.now.registers src) (λ old m. m) ≡ effect_of result self.now view.new }
         ensures at_end { LeavesAtEnd result view.old view.new }
+        ensures lengths { map length view.new.windows ≡ map length view.old.windows }
     {
         match self.update(view, op, size, address, self.get(src)) {
             Some(_) => Next::At(self.next()),
@@ -102,6 +105,7 @@ impl Processor {
         ensures effect { atomic_access (machine_of self.old view.old) op address size (slice_index self.old.registers src) (λ old m. with_register m src old)
             ≡ effect_of result self.new view.new }
         ensures at_end { LeavesAtEnd result view.old view.new }
+        ensures lengths { map length view.new.windows ≡ map length view.old.windows }
     {
         let Some(old) = self.update(view, op, size, address, self.get(src)) else {
             return Next::Ended(End::BadAccess(self.place));
@@ -117,6 +121,7 @@ impl Processor {
         ensures effect { atomic_access (machine_of self.old view.old) AtomicOp.Cmpxchg address size (slice_index self.old.registers src) (λ old m. with_register m 0 old)
             ≡ effect_of result self.new view.new }
         ensures at_end { LeavesAtEnd result view.old view.new }
+        ensures lengths { map length view.new.windows ≡ map length view.old.windows }
     {
         let Some(old) = self.update(view, AtomicOp::Cmpxchg, size, address, self.get(src)) else {
             return Next::Ended(End::BadAccess(self.place));

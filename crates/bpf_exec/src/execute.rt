@@ -1,5 +1,5 @@
 //! One instruction.
-ghost use Rattle.std.specs.Prelude.{◌≡◌};
+ghost use Rattle.std.specs.Prelude.{◌≡◌, length, map};
 ghost use Rattle.bpf_model.specs.Encoding.{IsAllowed};
 ghost use Rattle.bpf_model.specs.Step.{effect};
 ghost use Rattle.bpf_exec.specs.Seen.{machine_of, effect_of, LeavesAtEnd};
@@ -14,6 +14,7 @@ pub(crate) fn execute(insn: &Insn, p: &mut Processor, view: &mut View) -> Next
     requires { IsAllowed insn.now }
     ensures effect { effect insn.now (machine_of p.old view.old) ≡ effect_of result p.new view.new }
     ensures at_end { LeavesAtEnd result view.old view.new }
+    ensures lengths { map length view.new.windows ≡ map length view.old.windows }
 {
     match *insn {
         Insn::AluImm { op, wide, dst, imm } => p.compute(op, wide, dst, operand(imm)),

@@ -7,3 +7,7 @@ mod calls;
 mod execute;
 mod jumps;
 mod processor;
+mod runs;
+
+pub use bpf_isa::End;
+pub use runs::run;

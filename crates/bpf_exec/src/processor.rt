@@ -33,10 +33,29 @@ pub(crate) struct Processor {
 }
 
 impl Processor {
-    ghost use Rattle.std.specs.Prelude.{◌+◌, ◌%◌, ◌^◌, ℤ, pos, ◌+ℤ◌, slice_index, slice_set};
-    ghost use Rattle.bpf_model.specs.Machine.{with_register};
+    ghost use Rattle.std.specs.Prelude.{◌+◌, ◌%◌, ◌^◌, ℤ, length, pos, ◌+ℤ◌, replicate, slice_index, slice_set};
+    ghost use Rattle.bpf_model.specs.Address.{stack_len};
+    ghost use Rattle.bpf_model.specs.Machine.{entry_machine, with_register};
     ghost use Rattle.confined_view.specs.Touched.{Touched};
-    ghost use Rattle.bpf_exec.specs.Seen.{machine_of};
+    ghost use Rattle.bpf_exec.specs.Seen.{machine_of, memory_of, ranges_of};
+
+    /// The processor at the start of a program, with two parameters and so many ranges.
+    pub fn entry(p1: u64, p2: u64, ranges: u64) -> Processor
+        ensures place { result.place ≡ 0 }
+        ensures machine { (t : Touched) → t.stack ≡ replicate stack_len 0 → length (ranges_of t.windows) ≡ ranges →
+            machine_of result t ≡ entry_machine (ranges_of t.windows) (memory_of t.windows) p1 p2 }
+    {
+        let saved = SavedFrame {
+            registers: [0; 5],
+            return_place: 0,
+        };
+        Processor {
+            registers: [0, p1, p2, ranges, 0, 0, 0, 0, 0, 0, 0x1_0000_0000_1000],
+            frames: [saved; SAVED_FRAMES],
+            free: SAVED_FRAMES,
+            place: 0,
+        }
+    }
 
     /// What a register holds.
     #[inline(always)]
