@@ -1,3 +1,4 @@
+pub mod Address
 pub mod Encoding
 pub mod Form
 pub mod Value
