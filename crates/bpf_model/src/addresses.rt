@@ -1,6 +1,17 @@
-//! Worked examples of addresses.
+//! Where an access lies and worked examples of addresses.
 ghost use Rattle.std.specs.Prelude.{◌≡◌, ◌-◌, ◌^◌, [], ◌∷◌};
 ghost use Rattle.bpf_model.specs.Address.{InRange, InStack, Nowhere, resolve};
+
+/// Where the bytes of an access lie. The layout is this project's own.
+#[derive(Clone, Copy, Debug, PartialEq, Eq)]
+pub enum Place {
+    /// In the range of this index, from 0, and there from this byte on.
+    InRange { index: usize, offset: usize },
+    /// In the stack, from this byte on.
+    InStack { offset: usize },
+    /// Not wholly in one range, and not wholly in the stack.
+    Nowhere,
+}
 
 /// Worked examples of addresses: ranges of 8 and 7 bytes and others, and the stack.
 pub fn example_addresses()
