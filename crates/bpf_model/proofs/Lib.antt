@@ -1,3 +1,4 @@
+pub mod Address
 pub mod Atomic
 pub mod BothWays
 pub mod Decoded

@@ -1,6 +1,6 @@
 -- Where the bytes of an access lie: how an address is resolved to a range of the set or to the stack.
 -- The layout is this project's own.
-use Rattle.std.specs.Prelude.{ℕ, suc, ◌+◌, ◌-◌, ◌*◌, ◌^◌, ◌≤◌, Bool, nat_le, ◌&&◌, if◌then◌else◌, List, [], ◌∷◌, slice_get, IsSomeAnd}
+use Rattle.std.specs.Prelude.{◌≡◌, ℕ, suc, ◌+◌, ◌-◌, ◌*◌, ◌^◌, ◌≤◌, Bool, nat_le, ◌&&◌, if◌then◌else◌, List, [], ◌∷◌, slice_get, IsSomeAnd}
 pub use Rattle.bpf_model.specs.declared.addresses.Place.{Place}
 pub use Rattle.bpf_model.specs.declared.addresses.Place.TheVariants.{InRange, InStack, Nowhere}
 
@@ -33,8 +33,10 @@ resolve_from index (len ∷ lengths) address size =
 abbrev pub resolve : List ℕ → ℕ → ℕ → Place
 resolve lengths address size = resolve_from 0 lengths address size
 
--- the bytes of an access lie in a range that there is, or in the stack, wherever they lie at all
-abbrev pub IsInside : List ℕ → ℕ → Place → Type 0
-IsInside lengths size (InRange index offset) = IsSomeAnd (slice_get lengths index) (λ len. offset + size ≤ len)
-IsInside lengths size (InStack offset) = offset + size ≤ stack_len
-IsInside lengths size Nowhere = Unit {0}
+-- that size bytes from an address on lie at this place, among ranges of these lengths and the stack;
+-- of no place nothing is said
+abbrev pub LiesAt : List ℕ → ℕ → ℕ → Place → Type 0
+LiesAt lengths address size (InRange index offset) =
+    (range_start index + offset ≡ address) × IsSomeAnd (slice_get lengths index) (λ len. offset + size ≤ len)
+LiesAt lengths address size (InStack offset) = (stack_start + offset ≡ address) × (offset + size ≤ stack_len)
+LiesAt lengths address size Nowhere = Unit {0}

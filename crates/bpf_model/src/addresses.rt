@@ -1,6 +1,6 @@
-//! Where an access lies and worked examples of addresses.
-ghost use Rattle.std.specs.Prelude.{◌≡◌, ◌-◌, ◌^◌, [], ◌∷◌};
-ghost use Rattle.bpf_model.specs.Address.{InRange, InStack, Nowhere, resolve};
+//! Where an access lies, with the law and worked examples of addresses.
+ghost use Rattle.std.specs.Prelude.{◌≡◌, ◌≢◌, ℕ, ◌-◌, ◌^◌, ◌<◌, ◌≤◌, List, [], ◌∷◌, length, All};
+ghost use Rattle.bpf_model.specs.Address.{InRange, InStack, Nowhere, LiesAt, resolve};
 
 /// Where the bytes of an access lie. The layout is this project's own.
 #[derive(Clone, Copy, Debug, PartialEq, Eq)]
@@ -12,6 +12,14 @@ pub enum Place {
     /// Not wholly in one range, and not wholly in the stack.
     Nowhere,
 }
+
+/// The law of addresses, for at most 16 ranges that are each shorter than 2^32 bytes: an access is
+/// resolved to a range or to the stack exactly where all its bytes lie there.
+pub fn addresses_are_resolved()
+    ensures lies_there { (lengths : List ℕ) (address size : ℕ) → LiesAt lengths address size (resolve lengths address size) }
+    ensures found { (lengths : List ℕ) (address size : ℕ) (place : Place) → All (λ len. len < 2 ^ 32) lengths → length lengths ≤ 16 →
+        place ≢ Nowhere → LiesAt lengths address size place → resolve lengths address size ≡ place }
+{}
 
 /// Worked examples of addresses: ranges of 8 and 7 bytes and others, and the stack.
 pub fn example_addresses()

@@ -9,7 +9,7 @@ mod forms;
 mod values;
 mod walks;
 
-pub use addresses::{Place, example_addresses};
+pub use addresses::{Place, addresses_are_resolved, example_addresses};
 pub use fields::Fields;
 pub use forms::{example_forms, forms_are_encodings};
 pub use values::{laws_of_values, values_by_example};
