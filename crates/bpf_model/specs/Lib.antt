@@ -1,5 +1,10 @@
 pub mod Address
 pub mod Encoding
+pub mod Examples
 pub mod Form
+pub mod Machine
+pub mod Memory
+pub mod Outcome
+pub mod Step
 pub mod Value
 pub mod Walk

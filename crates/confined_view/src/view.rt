@@ -51,6 +51,13 @@ impl View {
         (self.windows, self.stack)
     }
 
+    /// How many ranges there are.
+    pub fn ranges(&self) -> u64
+        ensures { result ≡ length self.now.windows }
+    {
+        self.windows.len() as u64
+    }
+
     /// The number at an address, in little-endian order and with zeros above it. `None` where the access
     /// lies wholly neither in a range nor in the stack.
     pub fn load(&self, address: u64, size: Size) -> Option<u64>

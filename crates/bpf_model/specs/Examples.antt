@@ -1,0 +1,44 @@
+-- Programs of the worked examples, as their bytes.
+use Rattle.std.specs.Prelude.{ℕ, List, [], ◌∷◌, ◌++◌}
+use Rattle.cp_base.specs.declared.lists.MemRange.{MemRange}
+use Rattle.bpf_model.specs.Memory.{Memory}
+use Rattle.bpf_model.specs.Outcome.{Outcome, outcome}
+use Rattle.bpf_model.specs.Walk.{instruction_at}
+
+-- mov64 r0 7, exit
+abbrev pub exit_with_7 : List ℕ
+exit_with_7 = 0xb7 ∷ 0 ∷ 0 ∷ 0 ∷ 7 ∷ 0 ∷ 0 ∷ 0 ∷ 0x95 ∷ 0 ∷ 0 ∷ 0 ∷ 0 ∷ 0 ∷ 0 ∷ 0 ∷ []
+
+-- lddw r1 4294967296
+abbrev pub first_range_in_r1 : List ℕ
+first_range_in_r1 = 0x18 ∷ 1 ∷ 0 ∷ 0 ∷ 0 ∷ 0 ∷ 0 ∷ 0 ∷ 0 ∷ 0 ∷ 0 ∷ 0 ∷ 1 ∷ 0 ∷ 0 ∷ 0 ∷ []
+
+-- stb r1 0 85, ldxb r0 r1 0, exit, behind the load of r1
+abbrev pub store_and_load : List ℕ
+store_and_load = first_range_in_r1 ++ (0x72 ∷ 1 ∷ 0 ∷ 0 ∷ 85 ∷ 0 ∷ 0 ∷ 0
+    ∷ 0x71 ∷ 0x10 ∷ 0 ∷ 0 ∷ 0 ∷ 0 ∷ 0 ∷ 0 ∷ 0x95 ∷ 0 ∷ 0 ∷ 0 ∷ 0 ∷ 0 ∷ 0 ∷ 0 ∷ [])
+
+-- stb r1 8 85, exit, behind the load of r1: one past a range of 8 bytes
+abbrev pub store_past_the_end : List ℕ
+store_past_the_end = first_range_in_r1 ++ (0x72 ∷ 1 ∷ 8 ∷ 0 ∷ 85 ∷ 0 ∷ 0 ∷ 0 ∷ 0x95 ∷ 0 ∷ 0 ∷ 0 ∷ 0 ∷ 0 ∷ 0 ∷ 0 ∷ [])
+
+-- ja 1, lddw r0 0, exit: the target is the second unit of the load
+abbrev pub jump_into_a_wide_load : List ℕ
+jump_into_a_wide_load = 0x05 ∷ 0 ∷ 1 ∷ 0 ∷ 0 ∷ 0 ∷ 0 ∷ 0 ∷ 0x18 ∷ 0 ∷ 0 ∷ 0 ∷ 0 ∷ 0 ∷ 0 ∷ 0 ∷ 0 ∷ 0 ∷ 0 ∷ 0 ∷ 0 ∷ 0 ∷ 0 ∷ 0
+    ∷ 0x95 ∷ 0 ∷ 0 ∷ 0 ∷ 0 ∷ 0 ∷ 0 ∷ 0 ∷ []
+
+-- callp -1: a function that calls itself
+abbrev pub calls_itself : List ℕ
+calls_itself = 0x85 ∷ 0x10 ∷ 0 ∷ 0 ∷ 0xff ∷ 0xff ∷ 0xff ∷ 0xff ∷ []
+
+-- a range of 8 bytes of namespace 1, from byte 16 on
+abbrev pub eight_bytes : List MemRange
+eight_bytes = record { ns = 1; at = 16; len = 8 } ∷ []
+
+-- a memory of zeros
+abbrev pub zero_memory : Memory
+zero_memory ns offset = 0
+
+-- the outcome of code on those 8 bytes, within a budget
+abbrev pub run_of : List ℕ → ℕ → Outcome
+run_of code budget = outcome (instruction_at code) eight_bytes zero_memory 0 0 budget

@@ -1,0 +1,178 @@
+-- What one instruction does (RFC 9669, sections 4 and 5). The faults, the helper and the frames are this
+-- project's own.
+use Rattle.std.specs.Prelude.{ℕ, ◌+◌, ◌-◌, ◌*◌, ◌%◌, ◌^◌, nat_lt, Bool, true, false, ℤ, pos, negsuc, ◌+ℤ◌, if◌then◌else◌, List, [], ◌∷◌, ◌++◌, length, take, drop, slice_get, Option, Some, None, option_map, option_and_then, unwrap_or}
+use Rattle.std.specs.Option.{option_map_or}
+use Rattle.byteorder.specs.Endian.{little_number, little_bytes}
+use Rattle.cp_base.specs.Pieces.{piece, patched}
+use Rattle.bpf_isa.specs.Size.{bytes_of}
+use Rattle.bpf_isa.specs.declared.end.End.{End}
+use Rattle.bpf_isa.specs.declared.end.End.TheVariants.{Exit, BadAccess, BadJump, CallDepth}
+use Rattle.bpf_isa.specs.declared.insn.Insn.{Insn}
+use Rattle.bpf_isa.specs.declared.insn.Insn.TheVariants as insn
+use Rattle.bpf_isa.specs.declared.operand.Size.{Size}
+use Rattle.bpf_isa.specs.declared.operation.AluOp.{AluOp}
+use Rattle.bpf_isa.specs.declared.operation.AluOp.TheVariants as alu
+use Rattle.bpf_isa.specs.declared.operation.AtomicOp.{AtomicOp}
+use Rattle.bpf_isa.specs.declared.operation.AtomicOp.TheVariants as atomic
+use Rattle.bpf_isa.specs.declared.operation.JumpOp.{JumpOp}
+use Rattle.bpf_isa.specs.declared.operation.SwapOp.TheVariants as swap
+use Rattle.bpf_model.specs.declared.frames.SavedFrame.{SavedFrame}
+use Rattle.bpf_model.specs.Address.{Place, InRange, InStack, Nowhere, resolve}
+use Rattle.bpf_model.specs.Machine.{Machine, register, with_register, frame_pointer, deepest_frame}
+use Rattle.bpf_model.specs.Memory.{Memory, bytes_from, with_bytes, range_at, lengths_of}
+use Rattle.bpf_model.specs.Value.{value_of, compares, swapped, stored_by, sign_extended, unsigned}
+
+-- what an instruction does before the next place is looked at: it goes on with a machine at a target, or
+-- ends the execution and changes nothing
+pub data Effect : Type 0 where
+  Goes : (machine : Machine) (target : ℤ) → Effect
+  Ends : (ending : End) → Effect
+
+-- ---- going on
+
+-- at the place behind an instruction of one unit
+abbrev pub next : Machine → Effect
+next m = Goes m (pos (m.counter + 1))
+
+-- at the place behind it and so many units further
+abbrev pub jump : Machine → ℤ → Effect
+jump m distance = Goes m (pos (m.counter + 1) +ℤ distance)
+
+-- how many bits an operation reads
+abbrev pub width_of : Bool → ℕ
+width_of wide = if wide then 64 else 32
+
+-- with the value of an arithmetic operation on the destination and an operand
+abbrev pub arithmetic : Machine → AluOp → Bool → ℕ → ℕ → Effect
+arithmetic m op wide dst operand = next (with_register m dst (value_of op (width_of wide) (register m dst) operand))
+
+-- at the target of a conditional jump where the comparison holds
+abbrev pub branch : Machine → JumpOp → Bool → ℕ → ℕ → ℤ → Effect
+branch m op wide dst operand offset = if compares op (width_of wide) (register m dst) operand then jump m offset else next m
+
+-- ---- memory
+
+-- the address of an access: a register and an offset, modulo 2 ^ 64
+abbrev pub address : Machine → ℕ → ℤ → ℕ
+address m base offset = (register m base + unsigned 64 offset) % 2 ^ 64
+
+-- where an access of this size at an address lies
+abbrev pub place_of : Machine → ℕ → Size → Place
+place_of m at size = resolve (lengths_of m.ranges) at (bytes_of size)
+
+-- so many bytes at a place, which has none where it is nowhere
+abbrev pub bytes_at : Machine → Place → ℕ → Option (List ℕ)
+bytes_at m (InRange index offset) n = let r = range_at m.ranges index in Some (bytes_from m.memory r.ns (r.at + offset) n)
+bytes_at m (InStack offset) n = Some (piece m.stack offset n)
+bytes_at m Nowhere n = None
+
+-- the machine with these bytes at a place
+abbrev pub patched_at : Machine → Place → List ℕ → Option Machine
+patched_at m (InRange index offset) bytes = let r = range_at m.ranges index in Some (record m { memory = with_bytes m.memory r.ns (r.at + offset) bytes })
+patched_at m (InStack offset) bytes = Some (record m { stack = patched m.stack offset bytes })
+patched_at m Nowhere bytes = None
+
+-- the number at an address, in little-endian order; none where the access has no place
+abbrev pub loaded : Machine → ℕ → Size → Option ℕ
+loaded m at size = option_map (λ bytes. little_number (bytes_of size) bytes) (bytes_at m (place_of m at size) (bytes_of size))
+
+-- the machine with the low bytes of a value at an address; none where the access has no place
+abbrev pub stored : Machine → ℕ → Size → ℕ → Option Machine
+stored m at size value = patched_at m (place_of m at size) (little_bytes (bytes_of size) value)
+
+-- the effect of an access that has a place, and a fault where it has none
+abbrev pub accessed : Machine → Option Effect → Effect
+accessed m effect = unwrap_or effect (Ends (BadAccess m.counter))
+
+-- a load, of whose number some function is put into the destination
+abbrev pub load : Machine → ℕ → Size → ℕ → (ℕ → ℕ) → Effect
+load m at size dst f = accessed m (option_map (λ n. next (with_register m dst (f n))) (loaded m at size))
+
+-- a store
+abbrev pub store : Machine → ℕ → Size → ℕ → Effect
+store m at size value = accessed m (option_map next (stored m at size value))
+
+-- an atomic operation, after which the machine is changed for the old value
+abbrev pub atomic_access : Machine → AtomicOp → ℕ → Size → ℕ → (ℕ → Machine → Machine) → Effect
+atomic_access m op at size source fetch =
+    accessed m (option_and_then (λ old. option_map (λ m'. next (fetch old m')) (stored m at size (stored_by op size old source (register m 0)))) (loaded m at size))
+
+-- ---- calls
+
+-- helper 1: the length of the range of this index, or the greatest number where there is none
+abbrev pub length_of_range : Machine → ℕ → ℕ
+length_of_range m index = unwrap_or (slice_get (lengths_of m.ranges) index) (2 ^ 64 - 1)
+
+-- a local call: R6 to R10 and the place behind the call are saved
+abbrev pub call : Machine → ℤ → Effect
+call m distance =
+    if nat_lt (length m.frames) deepest_frame then jump (record (with_register m 10 (frame_pointer (length m.frames + 1))) {
+      frames = record { registers = drop 6 m.registers; return_place = m.counter + 1 } ∷ m.frames;
+    }) distance else Ends (CallDepth m.counter)
+
+-- a return to the latest saved frame, with its registers, or from the program, with R0
+abbrev pub return_to : Machine → List SavedFrame → Effect
+return_to m [] = Ends (Exit (register m 0))
+return_to m (frame ∷ frames) = Goes (record m { registers = take 6 m.registers ++ frame.registers; frames = frames }) (pos frame.return_place)
+
+-- ---- all instructions
+
+-- what an instruction does
+abbrev pub effect : Insn → Machine → Effect
+effect (insn.AluImm op wide dst imm) m = arithmetic m op wide dst (unsigned 64 imm)
+effect (insn.AluReg op wide dst src) m = arithmetic m op wide dst (register m src)
+effect (insn.DivImm op wide dst imm) m = arithmetic m op wide dst (unsigned 64 imm)
+effect (insn.DivReg op wide dst src) m = arithmetic m op wide dst (register m src)
+effect (insn.Neg wide dst) m = arithmetic m alu.Neg wide dst 0
+effect (insn.MovImm wide dst imm) m = arithmetic m alu.Mov wide dst (unsigned 64 imm)
+effect (insn.MovReg wide dst src) m = arithmetic m alu.Mov wide dst (register m src)
+effect (insn.Movsx32 op dst src) m = arithmetic m op false dst (register m src)
+effect (insn.Movsx64 op dst src) m = arithmetic m op true dst (register m src)
+effect (insn.ToLittle bits dst) m = next (with_register m dst (swapped swap.ToLittle bits (register m dst)))
+effect (insn.ToBig bits dst) m = next (with_register m dst (swapped swap.ToBig bits (register m dst)))
+effect (insn.Swap bits dst) m = next (with_register m dst (swapped swap.Swap bits (register m dst)))
+effect (insn.Jump offset) m = jump m offset
+effect (insn.JumpLong imm) m = jump m imm
+effect (insn.BranchImm op wide dst offset imm) m = branch m op wide dst (unsigned 64 imm) offset
+effect (insn.BranchReg op wide dst src offset) m = branch m op wide dst (register m src) offset
+effect insn.CallHelper m = next (with_register m 0 (length_of_range m (register m 1)))
+effect (insn.CallLocal imm) m = call m imm
+effect insn.Exit m = return_to m m.frames
+effect (insn.LoadImm dst value) m = Goes (with_register m dst value) (pos (m.counter + 2))
+effect (insn.Load size dst src offset) m = load m (address m src offset) size dst (λ n. n)
+effect (insn.LoadSigned size dst src offset) m = load m (address m src offset) size dst (λ n. sign_extended (8 * bytes_of size) 64 n)
+effect (insn.StoreImm size dst offset imm) m = store m (address m dst offset) size (unsigned 64 imm)
+effect (insn.StoreReg size dst src offset) m = store m (address m dst offset) size (register m src)
+effect (insn.Atomic op size dst src offset) m =
+    atomic_access m op (address m dst offset) size (register m src) (λ old m'. m')
+effect (insn.AtomicFetch op size dst src offset) m =
+    atomic_access m op (address m dst offset) size (register m src) (λ old m'. with_register m' src old)
+effect (insn.CompareExchange size dst src offset) m =
+    atomic_access m atomic.Cmpxchg (address m dst offset) size (register m src) (λ old m'. with_register m' 0 old)
+
+-- ---- the step
+
+-- a program: the instruction at each place where one starts
+abbrev pub Program : Type 0
+Program = ℕ → Option Insn
+
+-- what is left after an instruction: a machine that goes on, or the end and the memory reached
+pub data Step : Type 0 where
+  Continues : (machine : Machine) → Step
+  Stops : (ending : End) (memory : Memory) → Step
+
+-- the place of a target where an instruction starts
+abbrev pub start_at : Program → ℤ → Option ℕ
+start_at program (pos place) = option_map (λ i. place) (program place)
+start_at program (negsuc k) = None
+
+-- the step that an instruction's effect makes: the next place must be a start, else the execution ends, and
+-- what the instruction did stays
+abbrev pub settled : Program → Machine → Effect → Step
+settled program m (Goes m' target) =
+    option_map_or (λ place. Continues (record m' { counter = place })) (start_at program target) (Stops (BadJump m.counter) m'.memory)
+settled program m (Ends ending) = Stops ending m.memory
+
+-- one step: the instruction at the program counter is executed
+abbrev pub step : Program → Machine → Step
+step program m = option_map_or (λ i. settled program m (effect i m)) (program m.counter) (Stops (BadJump m.counter) m.memory)

@@ -1,0 +1,20 @@
+//! Worked examples of runs.
+ghost use Rattle.std.specs.Prelude.{◌≡◌};
+ghost use Rattle.bpf_model.specs.Examples.{run_of, exit_with_7, store_and_load, store_past_the_end, jump_into_a_wide_load, calls_itself};
+
+use bpf_isa::End;
+
+/// Worked examples of runs on a range of 8 zeros from byte 16 on of namespace 1.
+pub fn example_runs()
+    ensures exit_with_7_in_2 { (run_of exit_with_7 2).ending ≡ End.Exit 7 }
+    ensures exit_with_7_in_1 { (run_of exit_with_7 1).ending ≡ End.BudgetSpent }
+    ensures stored_value_is_loaded { (run_of store_and_load 4).ending ≡ End.Exit 85 }
+    ensures stored_byte { (run_of store_and_load 4).memory 1 16 ≡ 85 }
+    ensures other_byte { (run_of store_and_load 4).memory 1 17 ≡ 0 }
+    ensures other_namespace { (run_of store_and_load 4).memory 2 16 ≡ 0 }
+    ensures past_the_end { (run_of store_past_the_end 100).ending ≡ End.BadAccess 2 }
+    ensures nothing_stored { (run_of store_past_the_end 100).memory 1 24 ≡ 0 }
+    ensures into_a_wide_load { (run_of jump_into_a_wide_load 100).ending ≡ End.BadJump 0 }
+    ensures eighth_frame { (run_of calls_itself 7).ending ≡ End.BudgetSpent }
+    ensures ninth_frame { (run_of calls_itself 8).ending ≡ End.CallDepth 0 }
+{}
