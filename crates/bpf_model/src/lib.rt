@@ -1,12 +1,7 @@
 //! What instructions of the BPF profile mean: their forms and encodings, the walk over code, the values
-<<<<<<< HEAD
-//! of operations (RFC 9669), and where addresses lie. Definitions stand in `specs/`. The public functions
-//! have empty bodies: their contracts are laws and worked examples of the definitions.
-=======
 //! of operations (RFC 9669); and where addresses lie, the machine that executes programs, and the outcome
 //! of a run. Definitions stand in `specs/`. The public functions have empty bodies: their contracts are
 //! laws and worked examples of the definitions.
->>>>>>> c2c80af5b406e0d77a83b4bb232ada1dafcf1b54
 #![tactic(auto)]
 
 mod addresses;
