@@ -1,8 +1,5 @@
 pub mod Address
-<<<<<<< HEAD
-=======
 pub mod Alongside
->>>>>>> c2c80af5b406e0d77a83b4bb232ada1dafcf1b54
 pub mod Atomic
 pub mod BothWays
 pub mod Decoded
