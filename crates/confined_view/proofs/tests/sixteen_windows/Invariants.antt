@@ -1,4 +1,4 @@
-use Rattle.std.proofs.Common.{◌≡◌, ℕ, ◌<◌, ◌^◌, length}
+use Rattle.std.proofs.Common.{◌≡◌, ◌<◌, ◌^◌, length}
 use Rattle.std.specs.Prelude.{All}
 use Rattle.confined_view.specs.Touched.{contents_of}
 use Rattle.confined_view.proofs.tests.sixteen_windows.Given as goal
