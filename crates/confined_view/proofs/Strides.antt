@@ -1,5 +1,5 @@
 -- The place of an access, by the number of strides in its address and what is left of it.
-use Rattle.std.proofs.Common.{◌≡◌, ◌≢◌, ℕ, zero, suc, ◌+◌, ◌-◌, ◌*◌, ◌^◌, ◌<◌, ◌≤◌, List, Option, Some, None, length, get_or, refl, sym, ap, ◌∙◌, subst, arith}
+use Rattle.std.proofs.Common.{◌≡◌, ℕ, ◌+◌, ◌*◌, ◌^◌, ◌<◌, ◌≤◌, List, Option, Some, None, length, get_or, refl, sym, subst, arith}
 use Rattle.std.specs.Prelude.{slice_get, IsSomeAnd, All}
 use Rattle.std.proofs.lemmas.Option.{slice_get-get_or, slice_get_within, get_or_from_slice_get}
 use Rattle.bpf_model.specs.Address.{range_start, stack_start, stack_len, resolve, LiesAt}
@@ -35,6 +35,7 @@ no_place lengths a n s r short parts small no_range no_stack = by_place (resolve
         let stride : s ≡ i + 1 = omega arith in
         let contrary : get_or lengths i 0 < r + n = no_range i stride there in
         absurd (omega (arith, fits))
+
     by_place : (place : Place) → LiesAt lengths a n place → Nowhere ≡ place
     by_place (InRange i o) lies = by_len i o (slice_get lengths i) refl lies.0 lies.1
     by_place (InStack o) lies =

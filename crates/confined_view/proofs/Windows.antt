@@ -1,7 +1,8 @@
 -- The bytes of windows, read at their buffers.
-use Rattle.std.proofs.Common.{◌≡◌, ℕ, ◌+◌, ◌<◌, ◌≤◌, ◌^◌, List, [], Option, Some, None, length, map, get_or, set, unwrap_or, option_map, refl, sym, ap, ◌∙◌, subst, arith}
+use Rattle.std.proofs.Common.{◌≡◌, ℕ, ◌+◌, ◌<◌, ◌≤◌, ◌^◌, List, [], Option, Some, None, length, map, get_or, set, option_map, refl, sym, ap, ◌∙◌, subst, arith}
 use Rattle.std.specs.Prelude.{slice_get, IsSomeAnd, All}
 use Rattle.std.proofs.lemmas.List.{map-set, set-get_or, get_or-map, length-map}
+use Rattle.std.proofs.lemmas.List.Elements.{All-map}
 use Rattle.std.proofs.lemmas.Option.{slice_get_within, get_or_from_slice_get, unwrap_or-slice_get}
 use Rattle.byteorder.specs.Endian.{little_number, little_bytes}
 use Rattle.cp_base.specs.Buffer.{Buffer}
@@ -25,9 +26,7 @@ pub count-lengths : (bs : List Buffer) → length (map length (contents_of bs)) 
 count-lengths bs = length-map (contents_of bs) length ∙ length-map bs (λ (b : Buffer). b.items)
 
 pub short_lengths : (bs : List Buffer) → All (λ w. length w < 2 ^ 32) (contents_of bs) → All (λ len. len < 2 ^ 32) (map length (contents_of bs))
-short_lengths bs short k d there =
-    let inside : k < length (contents_of bs) = omega (arith, length-map (contents_of bs) length) in
-    subst (λ (n : ℕ). n < 2 ^ 32) (sym (get_or-map length (contents_of bs) k [] d inside)) (short k [] inside)
+short_lengths bs short = All-map (λ (len : ℕ). len < 2 ^ 32) length (contents_of bs) short
 
 -- the length of a window is that of the buffer there
 pub length_at : (bs : List Buffer) (i : ℕ) (b : Buffer) → i < length bs → b ≡ get_or bs i b → get_or (map length (contents_of bs)) i 0 ≡ length b.items
@@ -94,7 +93,7 @@ pub lengths-set : (bs : List Buffer) (i : ℕ) (b b' : Buffer) → i < length bs
 lengths-set bs i b b' there is same =
     ap (map length) (map-set (λ (x : Buffer). x.items) bs i b')
     ∙ map-set_same length (contents_of bs) i b'.items [] (omega (arith, length-map bs (λ (x : Buffer). x.items)))
-        (same ∙ ap length (ap (λ (x : Buffer). x.items) is ∙ sym (get_or-map (λ (x : Buffer). x.items) bs i b [] there)))
+    (same ∙ ap length (ap (λ (x : Buffer). x.items) is ∙ sym (get_or-map (λ (x : Buffer). x.items) bs i b [] there)))
 
 -- windows of the same lengths are short too
 pub still_short : (bs bs' : List Buffer) → map length (contents_of bs') ≡ map length (contents_of bs) → All (λ w. length w < 2 ^ 32) (contents_of bs) → All (λ w. length w < 2 ^ 32) (contents_of bs')

@@ -78,7 +78,11 @@ fn stores_are_confined(rt: HostRuntime) {
         (stack + 8, Size::B, stack, false, 0),
     ] {
         let found = stored(rt.alloc(), address, size, value, shown);
-        assert_eq!(rt; found, Some((done, Some(number))), "{size:?} at {address:#x}");
+        assert_eq!(rt;
+            found,
+            Some((done, Some(number))),
+            "{size:?} at {address:#x}"
+        );
     }
 }
 

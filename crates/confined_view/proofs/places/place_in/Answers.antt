@@ -1,6 +1,5 @@
-use Rattle.std.proofs.Common.{◌≡◌, ℕ, ◌+◌, ◌-◌, ◌*◌, ◌^◌, ◌<◌, ◌≤◌, ◌/◌, ◌%◌, List, length, map, get_or, ap, arith, subst}
+use Rattle.std.proofs.Common.{◌≡◌, ℕ, ◌+◌, ◌-◌, ◌^◌, ◌<◌, ◌/◌, ◌%◌, length, map, get_or, ap, arith, subst}
 use Rattle.bpf_isa.specs.Size.{bytes_of}
-use Rattle.bpf_model.specs.Address.{stack_len}
 use Rattle.confined_view.specs.Touched.{contents_of}
 use Rattle.confined_view.proofs.Strides.{stack_place, range_place, no_place}
 use Rattle.confined_view.proofs.Windows.{count-lengths, short_lengths, length_at}
@@ -18,11 +17,13 @@ returns-then-strides-eq0 c =
     no_place _ c.args.address (bytes_of c.args.size) (c.args.address / 2 ^ 32) (c.args.address % 2 ^ 32) (short_lengths _ c.requires.short)
     (omega arith) (omega arith)
     (λ i stride there. elim c.then-strides-eq0.branch [
-        then-strides-eq0-via-then-strides-eq0 w ↦ absurd (omega arith)
-      | then-strides-eq0-via-else-strides-eq0+then-strides-windows w ↦ absurd (omega arith) ])
+      | then-strides-eq0-via-then-strides-eq0 w ↦ absurd (omega arith)
+      | then-strides-eq0-via-else-strides-eq0+then-strides-windows w ↦ absurd (omega arith)
+    ])
     (λ stride. elim c.else-strides-eq-STACK_STRIDES.branch [
-        else-strides-eq-STACK_STRIDES-via-then-strides-eq-STACK_STRIDES+else-end-le-STACK_LEN w ↦ omega arith
-      | else-strides-eq-STACK_STRIDES-via-else-strides-eq-STACK_STRIDES w ↦ absurd (omega arith) ])
+      | else-strides-eq-STACK_STRIDES-via-then-strides-eq-STACK_STRIDES+else-end-le-STACK_LEN w ↦ omega arith
+      | else-strides-eq-STACK_STRIDES-via-else-strides-eq-STACK_STRIDES w ↦ absurd (omega arith)
+    ])
 
 pub returns-then-end-as_slice : goal.returns-then-end-as_slice
 returns-then-end-as_slice c =
@@ -30,13 +31,14 @@ returns-then-end-as_slice c =
     no_place _ c.args.address (bytes_of c.args.size) (c.args.address / 2 ^ 32) (c.args.address % 2 ^ 32) (short_lengths _ c.requires.short)
     (omega arith) (omega arith)
     (λ i stride there.
-        let same : c.args.address / 2 ^ 32 - 1 ≡ i = omega arith in
-        let within : c.args.address / 2 ^ 32 - 1 < length c.args.windows.now = omega arith in
-        let len = length_at c.args.windows.now _ c.index-windows-index.result within c.index-windows-index.is in
-        subst (λ (k : ℕ). get_or (map length (contents_of c.args.windows.now)) k 0 < c.args.address % 2 ^ 32 + bytes_of c.args.size) same (omega (arith, len, ap length c.as_slice.ensures)))
+    let same : c.args.address / 2 ^ 32 - 1 ≡ i = omega arith in
+    let within : c.args.address / 2 ^ 32 - 1 < length c.args.windows.now = omega arith in
+    let len = length_at c.args.windows.now _ c.index-windows-index.result within c.index-windows-index.is in
+    subst (λ (k : ℕ). get_or (map length (contents_of c.args.windows.now)) k 0 < c.args.address % 2 ^ 32 + bytes_of c.args.size) same (omega (arith, len, ap length c.as_slice.ensures)))
     (λ stride. elim c.else-strides-eq-STACK_STRIDES.branch [
-        else-strides-eq-STACK_STRIDES-via-then-strides-eq-STACK_STRIDES+else-end-le-STACK_LEN w ↦ omega arith
-      | else-strides-eq-STACK_STRIDES-via-else-strides-eq-STACK_STRIDES w ↦ absurd (omega arith) ])
+      | else-strides-eq-STACK_STRIDES-via-then-strides-eq-STACK_STRIDES+else-end-le-STACK_LEN w ↦ omega arith
+      | else-strides-eq-STACK_STRIDES-via-else-strides-eq-STACK_STRIDES w ↦ absurd (omega arith)
+    ])
 
 pub returns : goal.returns
 returns c =
