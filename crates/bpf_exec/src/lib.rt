@@ -11,3 +11,6 @@ mod runs;
 
 pub use bpf_isa::End;
 pub use runs::run;
+
+#[cfg(test)]
+mod tests;
