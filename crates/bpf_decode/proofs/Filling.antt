@@ -1,17 +1,18 @@
 -- What the slots filled so far say of the code.
-use Rattle.std.proofs.Common.{◌≡◌, ℕ, zero, suc, ◌<◌, ◌≤◌, ◌*◌, ◌+◌, Bool, true, false, ◌==◌, ◌||◌, ◌&&◌, List, [], ◌∷◌, ◌++◌, length, slice_index, get_or, Option, Some, None, refl, sym, ap, ◌∙◌, arith, inl, inr, length-append, length-drop, take, drop, ◌-◌}
+use Rattle.std.proofs.Common.{◌≡◌, ℕ, zero, suc, ◌<◌, ◌≤◌, ◌*◌, ◌+◌, Bool, true, false, ◌==◌, ◌||◌, ◌&&◌, List, [], ◌∷◌, ◌++◌, length, slice_index, get_or, Option, Some, None, refl, sym, ap, subst, ◌∙◌, arith, inl, inr, length-append, length-drop, take, drop, ◌-◌}
 use Rattle.std.proofs.Math.Bool.{or-true, or-false}
 use Rattle.std.proofs.Math.Seq.{take-length}
-use Rattle.std.specs.Prelude.{is_some, nat_lt, if◌then◌else◌}
+use Rattle.std.specs.Prelude.{is_some, nat_lt, if◌then◌else◌, All, IfSome}
 use Rattle.std.proofs.lemmas.Grind.{common_steps}
 use Rattle.std.proofs.lemmas.Bool.{cases_lt, cases_eq, eq-eqb, ne_eqb, lt-ltb, le-ltb, and_from, and_left, and_right}
 use Rattle.bpf_isa.specs.declared.insn.Insn.{Insn}
 use Rattle.bpf_isa.specs.declared.insn.Insn.TheVariants as insn
+use Rattle.bpf_model.specs.Encoding.{IsAllowed}
 use Rattle.bpf_model.specs.Form.{form}
 use Rattle.bpf_model.specs.Walk.{units_of, reaches, stop_from, bad_place, is_well_formed, IsWellFormed, instruction_at}
-use Rattle.bpf_model.proofs.BothWays.{form-inside, form-room}
+use Rattle.bpf_model.proofs.BothWays.{form-encoded, form-inside, form-room}
 use Rattle.bpf_model.proofs.Steps.{reaches-some, reaches-none, stop-some, stop-none}
-use Rattle.bpf_decode.specs.Slots.{slots_of}
+use Rattle.bpf_decode.specs.Slots.{slots_of, AreAllowed}
 
 -- the slots before a place of the walk have the instructions of the starts there
 pub record Filled (code : List ℕ) (slots : List (Option Insn)) : Type 0 where
@@ -19,9 +20,16 @@ pub record Filled (code : List ℕ) (slots : List (Option Insn)) : Type 0 where
   pub stops : stop_from (length code) code 0 ≡ stop_from (length code) code (length slots)
   pub reached : (q : ℕ) → reaches (suc (length code)) code 0 q ≡ (is_some (get_or slots q None) || reaches (suc (length code)) code (length slots) q)
   pub formed : (q : ℕ) → is_some (get_or slots q None) ≡ true → form code q ≡ get_or slots q None
+  pub allowed : (q : ℕ) → IfSome (get_or slots q None) IsAllowed
 
 pub filled-start : (code : List ℕ) → Filled code []
-filled-start code = record { inside = omega arith; stops = refl; reached = λ q. refl; formed = λ q h. cc }
+filled-start code = record { inside = omega arith; stops = refl; reached = λ q. refl; formed = λ q h. cc; allowed = λ q. tt }
+
+-- an item of a list is one by any default
+get_or_within : {A : Type 0} (slots : List A) (q : ℕ) (d e : A) → q < length slots → get_or slots q d ≡ get_or slots q e
+get_or_within [] q d e less = absurd (omega arith)
+get_or_within (x ∷ xs) zero d e less = refl
+get_or_within (x ∷ xs) (suc q) d e less = get_or_within xs q d e (omega arith)
 
 length-slots_of : (i : Insn) → length (slots_of i) ≡ units_of i
 length-slots_of (insn.LoadImm dst value) = refl
@@ -71,6 +79,13 @@ filled-more code slots i small w e =
         | inr other ↦
             let old : get_or (slots ++ slots_of i) q None ≡ get_or slots q None = slot-other slots i q other in
             w.formed q (sym (ap (λ (o : Option Insn). is_some o) old) ∙ h) ∙ sym old
+      ];
+      allowed = λ q. elim (cases_eq q p) [
+        | inl same ↦
+            let new : get_or (slots ++ slots_of i) q None ≡ Some i = rw same (slot-here slots i) in
+            let bytes : All (λ b. b < 256) code = λ k d less. rw (get_or_within code k d 0 less) (small k) in
+            subst (λ (o : Option Insn). IfSome o IsAllowed) (sym new) (form-encoded code p i bytes e).0
+        | inr other ↦ subst (λ (o : Option Insn). IfSome o IsAllowed) (sym (slot-other slots i q other)) (w.allowed q)
       ];
     }
 
@@ -123,6 +138,10 @@ filled-slots code slots w done q = elim (cases_lt q (length slots)) [
         let found : is_some (get_or slots q None) ≡ true = ap (λ (x : Option Insn). is_some x) e in
         sym (ap (λ (b : Bool). if nat_lt (8 * q) (length code) && b then form code q else None) (reached ∙ found)
         ∙ ap (λ (b : Bool). if b && true then form code q else None) earlier ∙ w.formed q found)
+
+-- each instruction among the slots is one of the profile
+pub filled-allowed : (code : List ℕ) (slots : List (Option Insn)) → Filled code slots → AreAllowed slots
+filled-allowed code slots w q d less = subst (λ (o : Option Insn). IfSome o IsAllowed) (sym (get_or_within slots q d None less)) (w.allowed q)
 
 -- a place of the walk without a form
 pub filled-bad : (code : List ℕ) (slots : List (Option Insn)) → Filled code slots → form code (length slots) ≡ None → 8 * length slots < length code

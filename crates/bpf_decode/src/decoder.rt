@@ -1,5 +1,6 @@
 //! Whole code.
-ghost use Rattle.std.specs.Prelude.{◌≡◌, ◌==◌, false, ℕ, ◌*◌, ◌≤◌, ◌++◌, length, pos, OnOk, IfOk, IsOkUnless, option_copied};
+ghost use Rattle.std.specs.Prelude.{◌≡◌, ◌==◌, false, ℕ, ◌*◌, ◌≤◌, ◌++◌, length, pos, ◌≤ℤ◌, OnSome, IfSome, OnOk, IfOk, IsOkUnless, option_copied};
+ghost use Rattle.bpf_model.specs.Encoding.{IsAllowed};
 ghost use Rattle.bpf_model.specs.Walk.{units_of, IsWellFormed, is_well_formed, bad_place, instruction_at};
 ghost use Rattle.bpf_decode.specs.Slots.{slots_of, insn_at};
 
@@ -50,19 +51,24 @@ pub struct Decoded {
 impl Model for Decoded {
     ghost use Rattle.std.specs.Prelude.{List, Option, ◌≤◌, length};
     ghost use Rattle.bpf_isa.specs.declared.insn.Insn.{Insn};
+    ghost use Rattle.bpf_decode.specs.Slots.{AreAllowed};
 
     ghost Value = { List (Option Insn) };
 
     ghost view = { λ d. d.slots.items };
 
-    ghost invariant = { λ d. length d.slots.items ≤ 8192 };
+    ghost invariant = { λ d. (length d.slots.items ≤ 8192) × AreAllowed d.slots.items };
 }
 
 impl Decoded {
     /// The instruction that starts at a place, or `None` where none does: before 0, at the second unit
     /// of a load of 64 bits, at the end and behind it. It takes the same time at every place.
+    /// No instruction starts behind place 8191, since code has at most 65,536 bytes, and each one is of the
+    /// profile.
     pub fn at(&self, place: i64) -> Option<&Insn>
-        ensures { option_copied result ≡ insn_at self.now place }
+        ensures instruction { option_copied result ≡ insn_at self.now place }
+        ensures within { OnSome result (place ≤ℤ pos 8191) }
+        ensures allowed { IfSome result (λ insn. IsAllowed insn.now) }
     {
         if place < 0 {
             return None;

@@ -1,3 +1,5 @@
+pub mod Address
+pub mod Alongside
 pub mod Atomic
 pub mod BothWays
 pub mod Decoded
@@ -7,3 +9,5 @@ pub mod Steps
 pub mod Swap
 pub mod Tables
 pub mod Value
+pub mod Windows
+pub mod Writing

@@ -1,13 +1,8 @@
 -- Where the bytes of an access lie: how an address is resolved to a range of the set or to the stack.
 -- The layout is this project's own.
-use Rattle.std.specs.Prelude.{ℕ, suc, ◌+◌, ◌-◌, ◌*◌, ◌^◌, Bool, nat_le, ◌&&◌, if◌then◌else◌, List, [], ◌∷◌}
-
--- where the bytes of an access lie: in the range of this index, from an offset on; in the stack, from an
--- offset on; or in neither
-pub data Place : Type 0 where
-  InRange : (index : ℕ) (offset : ℕ) → Place
-  InStack : (offset : ℕ) → Place
-  Nowhere : Place
+use Rattle.std.specs.Prelude.{◌≡◌, ℕ, suc, ◌+◌, ◌-◌, ◌*◌, ◌^◌, ◌≤◌, Bool, nat_le, ◌&&◌, if◌then◌else◌, List, [], ◌∷◌, slice_get, IsSomeAnd}
+pub use Rattle.bpf_model.specs.declared.addresses.Place.{Place}
+pub use Rattle.bpf_model.specs.declared.addresses.Place.TheVariants.{InRange, InStack, Nowhere}
 
 -- the address of a range's first byte; ranges are counted from 0
 abbrev pub range_start : ℕ → ℕ
@@ -37,3 +32,11 @@ resolve_from index (len ∷ lengths) address size =
 -- where size bytes from an address on lie, among ranges of these lengths and the stack
 abbrev pub resolve : List ℕ → ℕ → ℕ → Place
 resolve lengths address size = resolve_from 0 lengths address size
+
+-- that size bytes from an address on lie at this place, among ranges of these lengths and the stack;
+-- of no place nothing is said
+abbrev pub LiesAt : List ℕ → ℕ → ℕ → Place → Type 0
+LiesAt lengths address size (InRange index offset) =
+    (range_start index + offset ≡ address) × IsSomeAnd (slice_get lengths index) (λ len. offset + size ≤ len)
+LiesAt lengths address size (InStack offset) = (stack_start + offset ≡ address) × (offset + size ≤ stack_len)
+LiesAt lengths address size Nowhere = Unit {0}

@@ -1,5 +1,5 @@
 -- Programs of the worked examples, as their bytes.
-use Rattle.std.specs.Prelude.{ℕ, List, [], ◌∷◌, ◌++◌, ◌==◌, if◌then◌else◌}
+use Rattle.std.specs.Prelude.{ℕ, List, [], ◌∷◌, ◌++◌}
 use Rattle.cp_base.specs.declared.lists.MemRange.{MemRange}
 use Rattle.bpf_model.specs.Memory.{Memory}
 use Rattle.bpf_model.specs.Outcome.{Outcome, outcome}

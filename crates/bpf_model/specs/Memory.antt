@@ -32,6 +32,10 @@ windows_of memory ranges = map (λ (range : MemRange). bytes_from memory range.n
 abbrev pub LiesIn : MemRange → ℕ → ℕ → Type 0
 LiesIn range ns offset = (k : ℕ) × (k < range.len) × (range.ns ≡ ns) × (range.at + k ≡ offset)
 
+-- whether a byte of a namespace lies in one of the ranges
+abbrev pub Covers : List MemRange → ℕ → ℕ → Type 0
+Covers ranges ns offset = (index : ℕ) × LiesIn (range_at ranges index) ns offset
+
 -- no two of the ranges have a byte in common
 abbrev pub AreApart : List MemRange → Type 0
 AreApart ranges = AllPairs (λ (r s : MemRange). (k l : ℕ) → k < r.len → l < s.len → r.ns ≡ s.ns → r.at + k ≢ s.at + l) ranges

@@ -107,7 +107,7 @@ length_of_range m index = unwrap_or (slice_get (lengths_of m.ranges) index) (2 ^
 abbrev pub call : Machine → ℤ → Effect
 call m distance =
     if nat_lt (length m.frames) deepest_frame then jump (record (with_register m 10 (frame_pointer (length m.frames + 1))) {
-      frames = record { registers = drop 6 m.registers; return_place = m.counter + 1 } ∷ m.frames
+      frames = record { registers = drop 6 m.registers; return_place = m.counter + 1 } ∷ m.frames;
     }) distance else Ends (CallDepth m.counter)
 
 -- a return to the latest saved frame, with its registers, or from the program, with R0

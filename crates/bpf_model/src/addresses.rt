@@ -1,6 +1,25 @@
-//! Worked examples of addresses.
-ghost use Rattle.std.specs.Prelude.{◌≡◌, ◌-◌, ◌^◌, [], ◌∷◌};
-ghost use Rattle.bpf_model.specs.Address.{InRange, InStack, Nowhere, resolve};
+//! Where an access lies, with the law and worked examples of addresses.
+ghost use Rattle.std.specs.Prelude.{◌≡◌, ◌≢◌, ℕ, ◌-◌, ◌^◌, ◌<◌, ◌≤◌, List, [], ◌∷◌, length, All};
+ghost use Rattle.bpf_model.specs.Address.{InRange, InStack, Nowhere, LiesAt, resolve};
+
+/// Where the bytes of an access lie. The layout is this project's own.
+#[derive(Clone, Copy, Debug, PartialEq, Eq)]
+pub enum Place {
+    /// In the range of this index, from 0, and there from this byte on.
+    InRange { index: usize, offset: usize },
+    /// In the stack, from this byte on.
+    InStack { offset: usize },
+    /// Not wholly in one range, and not wholly in the stack.
+    Nowhere,
+}
+
+/// The law of addresses, for at most 16 ranges that are each shorter than 2^32 bytes: an access is
+/// resolved to a range or to the stack exactly where all its bytes lie there.
+pub fn addresses_are_resolved()
+    ensures lies_there { (lengths : List ℕ) (address size : ℕ) → LiesAt lengths address size (resolve lengths address size) }
+    ensures found { (lengths : List ℕ) (address size : ℕ) (place : Place) → All (λ len. len < 2 ^ 32) lengths → length lengths ≤ 16 →
+        place ≢ Nowhere → LiesAt lengths address size place → resolve lengths address size ≡ place }
+{}
 
 /// Worked examples of addresses: ranges of 8 and 7 bytes and others, and the stack.
 pub fn example_addresses()

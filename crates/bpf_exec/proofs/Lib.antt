@@ -1,0 +1,4 @@
+pub mod Entry
+pub mod Frames
+pub mod Steps
+pub mod Windows

@@ -1,0 +1,18 @@
+use Rattle.std.proofs.Common.{◌≡◌, ℕ, pos, length, map, Some}
+use Rattle.bpf_model.specs.Encoding.{IsAllowed}
+use Rattle.bpf_model.specs.Outcome.{outcome_from}
+use Rattle.bpf_decode.specs.Slots.{insn_at}
+use Rattle.bpf_exec.specs.Seen.{machine_of}
+use Rattle.bpf_exec.specs.Setting.{program_of}
+use Rattle.bpf_exec.proofs.runs.run_from.Given as goal
+
+abbrev pub invariant-loop-left : goal.invariant-loop-left
+invariant-loop-left l = record {
+  same : outcome_from (program_of l.code) l.left (machine_of l.p l.view) ≡ outcome_from (program_of l.code) l.budget (machine_of l.fn.p l.fn.view);
+  current : insn_at l.code (pos l.p.place) ≡ Some l.insn;
+  allowed : IsAllowed l.insn;
+  lengths : map (length {A = ℕ}) l.view.windows ≡ map (length {A = ℕ}) l.fn.view.windows;
+}
+
+abbrev pub decreases-loop-left : goal.decreases-loop-left
+decreases-loop-left l = l.left

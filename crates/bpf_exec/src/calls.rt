@@ -1,0 +1,67 @@
+//! Calls and returns.
+ghost use Rattle.std.specs.Prelude.{◌≡◌, ◌≤◌};
+ghost use Rattle.bpf_model.specs.Machine.{frame_pointer};
+ghost use Rattle.bpf_model.specs.Step.{call, effect, return_to};
+ghost use Rattle.confined_view.specs.Touched.{Touched};
+ghost use Rattle.bpf_exec.specs.Seen.{machine_of, effect_of};
+
+use crate::processor::{Next, Processor, SAVED_FRAMES};
+use bpf_isa::{End, Insn};
+use bpf_model::SavedFrame;
+use confined_view::View;
+
+// The address of the end of the stack, where the first frame begins.
+const STACK_END: u64 = 0x1_0000_0000_1000;
+
+// How many bytes of the stack a frame has.
+const FRAME_LEN: u64 = 512;
+
+/// The frame pointer of the frame of this number, from 0 to 7.
+fn pointer_of(frame: usize) -> u64
+    requires { frame ≤ 7 }
+    ensures { result ≡ frame_pointer frame }
+{
+    STACK_END - FRAME_LEN * frame as u64
+}
+
+impl Processor {
+    /// The helper of number 1: the length of a range.
+    #[tactic(auto, using(crate::proofs::Windows::helper_seen))]
+    pub fn call_helper(&mut self, view: &View) -> Next
+        ensures { effect Insn.CallHelper (machine_of self.old view.now) ≡ effect_of result self.new view.now }
+    {
+        self.registers[0] = view.range_len(self.registers[1]);
+        Next::At(self.next())
+    }
+
+    /// A call of a local function, whose first instruction lies so many units behind the next place.
+    pub fn call(&mut self, distance: i32) -> Next
+        ensures { (t : Touched) → call (machine_of self.old t) distance ≡ effect_of result self.new t }
+    {
+        if self.free == 0 {
+            return Next::Ended(End::CallDepth(self.place));
+        }
+        let mut registers = [0; 5];
+        registers.copy_from_slice(&self.registers[6..]);
+        self.free -= 1;
+        self.frames[self.free] = SavedFrame {
+            registers,
+            return_place: self.place + 1,
+        };
+        self.registers[10] = pointer_of(SAVED_FRAMES - self.free);
+        Next::At(self.target(distance))
+    }
+
+    /// A return from a local function, or from the program.
+    pub fn exit(&mut self) -> Next
+        ensures { (t : Touched) → effect Insn.Exit (machine_of self.old t) ≡ effect_of result self.new t }
+    {
+        if self.free == SAVED_FRAMES {
+            return Next::Ended(End::Exit(self.registers[0]));
+        }
+        let frame = self.frames[self.free];
+        self.free += 1;
+        self.registers[6..].copy_from_slice(&frame.registers);
+        Next::At(i64::from(frame.return_place))
+    }
+}

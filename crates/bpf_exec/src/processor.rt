@@ -1,0 +1,107 @@
+//! The state of a program between two instructions, beside the bytes that it may touch.
+ghost use Rattle.std.specs.Prelude.{◌≡◌, ◌<◌, ◌≤◌};
+ghost use Rattle.bpf_model.specs.Value.{unsigned};
+
+use bpf_isa::{End, Reg};
+use bpf_model::SavedFrame;
+
+/// How many frames can be saved.
+pub(crate) const SAVED_FRAMES: usize = 7;
+
+/// What an instruction leads to, before the next place is looked at.
+#[derive(Clone, Copy, Debug)]
+pub(crate) enum Next {
+    /// The execution goes on at a place, where an instruction may start or not.
+    At(i64),
+    /// The execution ends.
+    Ended(End),
+}
+
+/// The registers, the program counter, and the frames that are saved.
+#[derive(Clone, Copy, Debug)]
+pub(crate) struct Processor {
+    /// R0 to R10.
+    pub registers: [u64; 11],
+    /// The saved frames behind those that are free, the latest first.
+    pub frames: [SavedFrame; SAVED_FRAMES],
+    /// How many frames are free.
+    pub free: usize,
+    /// The place of the instruction that is executed.
+    pub place: u32,
+    ghost few: { free ≤ 7 },
+    ghost early: { place < 8192 },
+}
+
+impl Processor {
+    ghost use Rattle.std.specs.Prelude.{◌+◌, ◌%◌, ◌^◌, ℤ, length, pos, ◌+ℤ◌, replicate, slice_index, slice_set};
+    ghost use Rattle.bpf_model.specs.Address.{stack_len};
+    ghost use Rattle.bpf_model.specs.Machine.{entry_machine, with_register};
+    ghost use Rattle.confined_view.specs.Touched.{Touched};
+    ghost use Rattle.bpf_exec.specs.Seen.{machine_of, memory_of, ranges_of};
+
+    /// The processor at the start of a program, with two parameters and so many ranges.
+    pub fn entry(p1: u64, p2: u64, ranges: u64) -> Processor
+        ensures place { result.place ≡ 0 }
+        ensures machine { (t : Touched) → t.stack ≡ replicate stack_len 0 → length (ranges_of t.windows) ≡ ranges →
+            machine_of result t ≡ entry_machine (ranges_of t.windows) (memory_of t.windows) p1 p2 }
+    {
+        let saved = SavedFrame {
+            registers: [0; 5],
+            return_place: 0,
+        };
+        Processor {
+            registers: [0, p1, p2, ranges, 0, 0, 0, 0, 0, 0, 0x1_0000_0000_1000],
+            frames: [saved; SAVED_FRAMES],
+            free: SAVED_FRAMES,
+            place: 0,
+        }
+    }
+
+    /// What a register holds.
+    #[inline(always)]
+    pub fn get(&self, register: Reg) -> u64
+        ensures { result ≡ slice_index self.now.registers register }
+    {
+        self.registers[register.number() as usize]
+    }
+
+    /// Puts a value into a register.
+    #[inline(always)]
+    pub fn set(&mut self, reg: Reg, value: u64)
+        ensures { (t : Touched) → machine_of self.new t ≡ with_register (machine_of self.old t) reg value }
+    {
+        self.registers[reg.number() as usize] = value;
+    }
+
+    /// The place behind an instruction of one unit.
+    #[inline(always)]
+    pub fn next(&self) -> i64
+        ensures { result ≡ pos (self.now.place + 1) }
+    {
+        i64::from(self.place) + 1
+    }
+
+    /// The place behind it and so many units further.
+    #[inline(always)]
+    pub fn target(&self, distance: i32) -> i64
+        ensures { result ≡ pos (self.now.place + 1) +ℤ distance }
+    {
+        self.next() + i64::from(distance)
+    }
+
+    /// The address that an offset from a register makes.
+    #[inline(always)]
+    pub fn address(&self, base: Reg, offset: i16) -> u64
+        ensures { result ≡ (slice_index self.now.registers base + unsigned 64 offset) % 2 ^ 64 }
+    {
+        self.get(base).wrapping_add(operand(i32::from(offset)))
+    }
+}
+
+/// An immediate as an operand, sign-extended to 64 bits.
+#[inline(always)]
+pub(crate) fn operand(imm: i32) -> u64
+    ensures { result ≡ unsigned 64 imm }
+{
+    i64::from(imm).cast_unsigned()
+}

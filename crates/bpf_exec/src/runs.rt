@@ -1,0 +1,76 @@
+//! A run.
+ghost use Rattle.std.specs.Prelude.{◌≡◌, ◌≤◌, ℕ, List, pos, Some, replicate, map, length, IfOk, IfErr, OnOk};
+ghost use Rattle.cp_base.specs.declared.lists.MemRange.{MemRange};
+ghost use Rattle.bpf_model.specs.Address.{stack_len};
+ghost use Rattle.bpf_model.specs.Encoding.{IsAllowed};
+ghost use Rattle.bpf_model.specs.Memory.{Memory, windows_of};
+ghost use Rattle.bpf_model.specs.Outcome.{outcome, outcome_from};
+ghost use Rattle.bpf_model.specs.Step.{Program, Continues, Stops, step};
+ghost use Rattle.bpf_decode.specs.Slots.{insn_at};
+ghost use Rattle.bpf_exec.specs.Seen.{machine_of, memory_of};
+ghost use Rattle.bpf_exec.specs.Setting.{Describes, program_of};
+
+use crate::execute::execute;
+use crate::processor::{Next, Processor};
+use bpf_decode::Decoded;
+use bpf_isa::{End, Insn};
+use confined_view::View;
+
+/// Executes the instruction at the program counter, and answers the one at the next place or the end.
+#[inline(always)]
+fn advance(code: &Decoded, p: &mut Processor, insn: &Insn, view: &mut View) -> Result<Insn, End>
+    requires current { insn_at code.now (pos p.old.place) ≡ Some insn.now }
+    requires allowed { IsAllowed insn.now }
+    ensures goes_on { OnOk result (step (program_of code.now) (machine_of p.old view.old) ≡ Continues (machine_of p.new view.new)) }
+    ensures ends { IfErr result (λ end. step (program_of code.now) (machine_of p.old view.old) ≡ Stops end (memory_of view.new.windows)) }
+    ensures next { IfOk result (λ next. insn_at code.now (pos p.new.place) ≡ Some next) }
+    ensures next_allowed { IfOk result (λ next. IsAllowed next) }
+    ensures lengths { map length view.new.windows ≡ map length view.old.windows }
+{
+    let place = p.place;
+    match execute(insn, p, view) {
+        Next::Ended(end) => Err(end),
+        Next::At(target) => match code.at(target) {
+            Some(next) => {
+                p.place = target as u32;
+                Ok(*next)
+            }
+            None => Err(End::BadJump(place)),
+        },
+    }
+}
+
+/// Executes instructions from the program counter on, at most as many as the budget allows.
+fn run_from(code: &Decoded, p: &mut Processor, first: Insn, view: &mut View, budget: u64) -> End
+    requires current { insn_at code.now (pos p.old.place) ≡ Some first }
+    requires allowed { IsAllowed first }
+    ensures outcome { outcome_from (program_of code.now) budget (machine_of p.old view.old) ≡ record { ending = result; memory = memory_of view.new.windows } }
+    ensures lengths { map length view.new.windows ≡ map length view.old.windows }
+{
+    let mut insn = first;
+    let mut left = budget;
+    while left > 0 {
+        match advance(code, p, &insn, view) {
+            Ok(next) => insn = next,
+            Err(end) => return end,
+        }
+        left -= 1;
+    }
+    End::BudgetSpent
+}
+
+/// Executes a program, from place 0 on, with two parameters and a budget of instructions.
+pub fn run(code: &Decoded, view: &mut View, p1: u64, p2: u64, budget: u64) -> End
+    requires budget { 1 ≤ budget }
+    requires stack { view.old.stack ≡ replicate stack_len 0 }
+    ensures ending { (program : Program) (ranges : List MemRange) (memory : Memory) → Describes program ranges memory code.now view.old.windows →
+        result ≡ (outcome program ranges memory p1 p2 budget).ending }
+    ensures windows { (program : Program) (ranges : List MemRange) (memory : Memory) → Describes program ranges memory code.now view.old.windows →
+        view.new.windows ≡ windows_of (outcome program ranges memory p1 p2 budget).memory ranges }
+{
+    let Some(first) = code.at(0) else {
+        return End::BadJump(0);
+    };
+    let mut p = Processor::entry(p1, p2, view.ranges());
+    run_from(code, &mut p, *first, view, budget)
+}

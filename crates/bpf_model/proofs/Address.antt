@@ -1,0 +1,90 @@
+-- Addresses: an access lies where it is resolved to, and nowhere else.
+use Rattle.std.proofs.Common.{◌≡◌, ◌≢◌, ℕ, zero, suc, ◌+◌, ◌-◌, ◌^◌, ◌<◌, ◌≤◌, Bool, true, false, List, [], ◌∷◌, Option, Some, None, length, refl, sym, ap, ◌∙◌, subst, arith}
+use Rattle.std.specs.Prelude.{slice_get, IsSomeAnd, if◌then◌else◌, All}
+use Rattle.std.proofs.lemmas.Bool.{and_parts, and_from, and_left, and_right, leb-true, le-leb, lt-leb}
+use Rattle.std.proofs.lemmas.Option.{same_Some, none-some}
+use Rattle.bpf_model.specs.Address.{Place, InRange, InStack, Nowhere, range_start, stack_start, stack_len, is_within, resolve_from, resolve, LiesAt}
+
+-- the test of an access against a part of memory, both ways
+within-parts : (start len a n : ℕ) → is_within start len a n ≡ true → (start ≤ a) × (a + n ≤ start + len)
+within-parts start len a n e =
+    let both = and_parts _ _ e in (leb-true start a both.0, leb-true (a + n) (start + len) both.1)
+
+within-from : (start len a n : ℕ) → start ≤ a → a + n ≤ start + len → is_within start len a n ≡ true
+within-from start len a n low high = and_from _ _ (le-leb start a low) (le-leb (a + n) (start + len) high)
+
+before : (start len a n : ℕ) → a < start → is_within start len a n ≡ false
+before start len a n h = and_left _ _ (lt-leb start a h)
+
+behind : (start len a n : ℕ) → start + len < a + n → is_within start len a n ≡ false
+behind start len a n h = and_right _ _ (lt-leb (a + n) (start + len) h)
+
+-- an access lies where it is resolved to, where the ranges are the last ones of all
+lies_from : (all : List ℕ) (i : ℕ) (lengths : List ℕ) (a n : ℕ) → ((k : ℕ) → slice_get lengths k ≡ slice_get all (i + k))
+    → LiesAt all a n (resolve_from i lengths a n)
+lies_from all i [] a n same = by_test (is_within stack_start stack_len a n) refl
+  where
+    by_test : (b : Bool) → is_within stack_start stack_len a n ≡ b → LiesAt all a n (if b then InStack (a - stack_start) else Nowhere)
+    by_test false e = tt
+    by_test true e = let bounds = within-parts stack_start stack_len a n e in (omega (arith, bounds), omega (arith, bounds))
+lies_from all i (len ∷ lengths) a n same = by_test (is_within (range_start i) len a n) refl
+    (lies_from all (suc i) lengths a n (λ k. let next : i + suc k ≡ suc i + k = omega arith in subst (λ (j : ℕ). slice_get lengths k ≡ slice_get all j) next (same (suc k))))
+  where
+    by_test : (b : Bool) → is_within (range_start i) len a n ≡ b → LiesAt all a n (resolve_from (suc i) lengths a n)
+        → LiesAt all a n (if b then InRange i (a - range_start i) else resolve_from (suc i) lengths a n)
+    by_test false e later = later
+    by_test true e later =
+        let bounds = within-parts (range_start i) len a n e in
+        let here : i + 0 ≡ i = omega arith in
+        let there : Some len ≡ slice_get all i = subst (λ (j : ℕ). Some len ≡ slice_get all j) here (same 0) in
+        let P : Option ℕ → Type 0 = λ o. IsSomeAnd o (λ l. a - range_start i + n ≤ l) in
+        let fits : a - range_start i + n ≤ len = omega (arith, bounds) in
+        (omega (arith, bounds), subst P there fits)
+
+pub lies_there : (lengths : List ℕ) (a n : ℕ) → LiesAt lengths a n (resolve lengths a n)
+lies_there lengths a n = lies_from lengths 0 lengths a n (λ k. let same : k ≡ 0 + k = omega arith in ap (slice_get lengths) same)
+
+-- an access that lies in a range is resolved to it
+pub found_from : (i : ℕ) (lengths : List ℕ) (k j a r n len : ℕ) → All (λ l. l < 2 ^ 32) lengths → slice_get lengths k ≡ Some len → j ≡ i + k
+    → range_start j + r ≡ a → r + n ≤ len → resolve_from i lengths a n ≡ InRange j r
+found_from i [] k j a r n len short e at start fits = absurd (none-some len e)
+found_from i (l ∷ lengths) zero j a r n len short e at start fits =
+    let same = same_Some l len e in
+    let here : j ≡ i = omega arith in
+    let inside = within-from (range_start i) l a n (omega arith) (omega arith) in
+    let offset : a - range_start i ≡ r = omega arith in
+    ap (λ (b : Bool). if b then InRange i (a - range_start i) else resolve_from (suc i) lengths a n) inside
+    ∙ ap (InRange i) offset ∙ ap (λ (m : ℕ). InRange m r) (sym here)
+found_from i (l ∷ lengths) (suc k) j a r n len short e at start fits =
+    let small : l < 2 ^ 32 = short 0 0 (omega arith) in
+    let outside = behind (range_start i) l a n (omega arith) in
+    ap (λ (b : Bool). if b then InRange i (a - range_start i) else resolve_from (suc i) lengths a n) outside
+    ∙ found_from (suc i) lengths k j a r n len (λ m d h. short (suc m) d (omega arith)) e (omega arith) start fits
+
+-- an access that begins behind each of the ranges is resolved as where there are none
+not_among : (i : ℕ) (lengths : List ℕ) (a n : ℕ) → All (λ l. l < 2 ^ 32) lengths → range_start (i + length lengths) ≤ a
+    → resolve_from i lengths a n ≡ resolve_from 0 [] a n
+not_among i [] a n short e = refl
+not_among i (l ∷ lengths) a n short e =
+    let small : l < 2 ^ 32 = short 0 0 (omega arith) in
+    let outside = behind (range_start i) l a n (omega arith) in
+    ap (λ (b : Bool). if b then InRange i (a - range_start i) else resolve_from (suc i) lengths a n) outside
+    ∙ not_among (suc i) lengths a n (λ m d h. short (suc m) d (omega arith)) (omega arith)
+
+in_a_range : (lengths : List ℕ) (a n j r : ℕ) → All (λ l. l < 2 ^ 32) lengths → range_start j + r ≡ a
+    → (o : Option ℕ) → slice_get lengths j ≡ o → IsSomeAnd o (λ len. r + n ≤ len) → resolve lengths a n ≡ InRange j r
+in_a_range lengths a n j r short start None e fits = absurd fits
+in_a_range lengths a n j r short start (Some len) e fits = found_from 0 lengths j j a r n len short e (omega arith) start fits
+
+-- a place where the bytes of an access lie is the one that it is resolved to
+pub found : (lengths : List ℕ) (a n : ℕ) (place : Place) → All (λ l. l < 2 ^ 32) lengths → length lengths ≤ 16 → place ≢ Nowhere
+    → LiesAt lengths a n place → resolve lengths a n ≡ place
+found lengths a n (InRange j r) short few some lies = in_a_range lengths a n j r short lies.0 (slice_get lengths j) refl lies.1
+found lengths a n (InStack r) short few some lies =
+    let start : stack_start + r ≡ a = lies.0 in
+    let fits : r + n ≤ stack_len = lies.1 in
+    let inside = within-from stack_start stack_len a n (omega arith) (omega arith) in
+    let offset : a - stack_start ≡ r = omega arith in
+    not_among 0 lengths a n short (omega arith)
+    ∙ ap (λ (b : Bool). if b then InStack (a - stack_start) else Nowhere) inside ∙ ap InStack offset
+found lengths a n Nowhere short few some lies = absurd (some refl)
