@@ -4,8 +4,10 @@ pub mod CutTexts
 pub mod DraftLines
 pub mod Keeping
 pub mod Outcomes
+pub mod Printed
 pub mod Puts
 pub mod Shapes
 pub mod Spelled
 pub mod Triples
 pub mod WholeTexts
+pub mod Walk

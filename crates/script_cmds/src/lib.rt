@@ -1,6 +1,7 @@
 //! Scripts of hosts: what a script says, and its one text, read and printed.
 #![tactic(auto)]
 
+mod content;
 mod draft;
 mod examples;
 mod fault;
@@ -12,6 +13,7 @@ mod line;
 mod lists;
 mod parsing;
 mod parts;
+mod printing;
 mod progress;
 mod reading;
 mod script;
@@ -22,6 +24,7 @@ pub use fault::{ParseEnd, ScriptFault, TextCause};
 pub use item::{HostPart, Item, Phase, Show};
 pub use kind::LineKind;
 pub use parsing::parse;
+pub use printing::print;
 pub use progress::{Progress, Stage};
 pub use script::Script;
 pub use word::CommandWord;
