@@ -1,19 +1,18 @@
 -- What is added to a text, line by line and field by field.
-use Rattle.std.proofs.Common.{◌≡◌, ℕ, ◌+◌, ◌<◌, List, [], ◌∷◌, ◌++◌, length, map, drop, cond, eqb, refl, sym, ap, subst, ◌∙◌, append_assoc, arith, get_or, Bool, true, false}
-use Rattle.std.specs.Prelude.{All, decimal}
+use Rattle.std.proofs.Common.{◌≡◌, ℕ, ◌+◌, List, [], ◌∷◌, ◌++◌, map, cond, eqb, refl, sym, ap, subst, ◌∙◌, append_assoc, Bool, true, false}
+use Rattle.std.specs.Prelude.{All}
 use Rattle.std.proofs.lemmas.List.{append-nil}
 use Rattle.std.proofs.lemmas.List.Elements.{All-append, All-nil, All-cons}
-use Rattle.cp_text.specs.HexText.{hex_text}
 use Rattle.script_cmds.specs.declared.item.Phase.{Phase}
 use Rattle.script_cmds.specs.declared.item.Show.{Show}
 use Rattle.script_cmds.specs.declared.kind.LineKind.{LineKind}
 use Rattle.script_cmds.specs.declared.script.Script.{Script}
-use Rattle.script_cmds.specs.Field.{Field, Word, Number, Hex, Sources, Ranges, Value, Count, Data, Copied, Covered, joined_by, field_texts, source_text, range_text}
+use Rattle.script_cmds.specs.Field.{Field, Word, Number, Hex, Sources, Ranges, Value, Count, Data, Copied, Covered, joined_by, field_texts}
 use Rattle.script_cmds.specs.Line.{Line, line_text, line_fields, more_fields, fields_of}
 use Rattle.script_cmds.specs.Printing.{Prints, PrintsFields, front_of, is_word, joined_behind, value_text}
 use Rattle.script_cmds.specs.Reading.{IsShaped}
 use Rattle.script_cmds.proofs.Shapes.{no_value}
-use Rattle.script_cmds.specs.Sized.{IsSized, AreSized}
+use Rattle.script_cmds.specs.Sized.{IsSized}
 use Rattle.script_cmds.specs.Text.{configuration_lines, lines_of, lines_text, numbers_line, phase_lines, show_lines, size_lines}
 
 -- ---- parts with a mark between

@@ -1,5 +1,5 @@
 -- What the fields of a script's lines can say. This project's own.
-use Rattle.std.specs.Prelude.{ℕ, ◌^◌, ◌<◌, List, length, All}
+use Rattle.std.specs.Prelude.{◌^◌, ◌<◌, List, length, All}
 use Rattle.cp_base.specs.declared.lists.CopySource.{CopySource}
 use Rattle.cp_base.specs.declared.lists.CopySource.TheVariants as source
 use Rattle.cp_base.specs.declared.lists.MemRange.{MemRange}

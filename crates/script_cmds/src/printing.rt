@@ -1,5 +1,8 @@
 // A whole script as its one text.
-ghost use Rattle.std.specs.Prelude.{◌≡◌, ℕ, ◌≤◌, ◌∷◌, [], length, IfOk, OnOk};
+ghost use Rattle.std.specs.Prelude.{◌≡◌, ℕ, ◌≤◌, ◌∷◌, [], None, length, IsTrue, IfOk, OnOk};
+ghost use Rattle.script_cmds.specs.Drafts.{are_built_lines};
+ghost use Rattle.script_cmds.specs.Fault.{first_fault};
+ghost use Rattle.script_cmds.specs.Kept.{KeepsOrderAndLimits};
 ghost use Rattle.script_cmds.specs.Line.{counts, fields_of, send_values, word_of};
 ghost use Rattle.script_cmds.specs.Printing.{Prints};
 ghost use Rattle.script_cmds.specs.Reading.{IsShaped};
@@ -14,11 +17,15 @@ use crate::{CommandWord, HostPart, Item, LineKind, Phase, Script, Show};
 use cp_base::{Bytes, Command, Config, NoMemory, SpaceId};
 use std::alloc::Global;
 
-/// The one text of a script: its lines in their order, each ended by a newline. Its numbers, data and
-/// lists are such that `parse` reads them again.
+/// The one text of a script: its lines in their order, each ended by a newline. `parse` reads it again
+/// where the script keeps order and limits and its lines are built; a script that `parse` gave has the
+/// text that it was read from. `NoMemory` where memory is wanting.
 pub fn print(alloc: Global, script: &Script) -> Result<Bytes, NoMemory>
     ensures text { IfOk result (λ text. text.items ≡ script_text script.now) }
     ensures sized { OnOk result (AreSized (lines_of script.now)) }
+    ensures accepted { OnOk result (IsTrue (are_built_lines (lines_of script.now))
+        → KeepsOrderAndLimits script.now
+        → first_fault (script_text script.now) ≡ None) }
 {
     let mut out = Bytes::new(alloc);
     push_configuration(&mut out, &script.config)?;

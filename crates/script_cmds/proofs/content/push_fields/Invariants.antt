@@ -1,4 +1,4 @@
-use Rattle.std.proofs.Common.{◌≡◌, ℕ, ◌<◌, List, [], ◌∷◌, ◌++◌, drop, map}
+use Rattle.std.proofs.Common.{◌≡◌, ◌<◌, List, [], ◌∷◌, ◌++◌, drop, map}
 use Rattle.script_cmds.specs.Field.{Field}
 use Rattle.script_cmds.specs.Printing.{PrintsFields, content_view}
 use Rattle.script_cmds.specs.Reading.{IsShaped, field_view}

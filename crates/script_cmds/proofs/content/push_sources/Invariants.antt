@@ -1,4 +1,4 @@
-use Rattle.std.proofs.Common.{◌≡◌, ◌++◌, drop, map, take}
+use Rattle.std.proofs.Common.{◌≡◌, ◌++◌, drop, map}
 use Rattle.std.specs.Prelude.{All}
 use Rattle.script_cmds.specs.Field.{joined_by, source_text}
 use Rattle.script_cmds.specs.Printing.{joined_behind}

@@ -1,4 +1,4 @@
-use Rattle.std.proofs.Common.{◌+◌, List, [], ◌∷◌, ◌++◌, drop, map, subst, sym}
+use Rattle.std.proofs.Common.{◌+◌, [], ◌∷◌, drop, subst, sym}
 use Rattle.script_cmds.specs.declared.content.FieldContent.{FieldContent}
 use Rattle.script_cmds.specs.declared.kind.LineKind.TheVariants as line
 use Rattle.script_cmds.specs.Printing.{Prints, content_view}

@@ -1,4 +1,4 @@
-use Rattle.std.proofs.Common.{◌+◌, List, [], ◌∷◌, ◌++◌, drop, subst, sym}
+use Rattle.std.proofs.Common.{◌+◌, [], ◌∷◌, drop, subst, sym}
 use Rattle.script_cmds.specs.declared.kind.LineKind.TheVariants as line
 use Rattle.script_cmds.specs.Printing.{Prints}
 use Rattle.script_cmds.specs.Text.{numbers_line, part_lines, phase_lines}

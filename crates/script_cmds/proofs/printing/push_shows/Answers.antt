@@ -1,4 +1,4 @@
-use Rattle.std.proofs.Common.{◌+◌, List, [], ◌∷◌, drop, subst, sym}
+use Rattle.std.proofs.Common.{◌+◌, [], ◌∷◌, drop, subst, sym}
 use Rattle.script_cmds.specs.Printing.{Prints}
 use Rattle.script_cmds.specs.Text.{show_lines, show_line}
 use Rattle.script_cmds.proofs.Printed.{prints_both, prints_nothing}

@@ -1,4 +1,4 @@
-use Rattle.std.proofs.Common.{◌≡◌, ◌+◌, List, [], ◌∷◌, ◌++◌, ◌∙◌, ap, arith, drop, get_or, subst, sym}
+use Rattle.std.proofs.Common.{◌+◌, [], ◌∷◌, ◌∙◌, ap, arith, drop, get_or, subst, sym}
 use Rattle.script_cmds.specs.Printing.{Prints}
 use Rattle.script_cmds.specs.Text.{size_lines}
 use Rattle.script_cmds.proofs.Printed.{first_size, prints_both, prints_nothing}
