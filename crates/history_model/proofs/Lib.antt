@@ -1,3 +1,4 @@
 pub mod Every
+pub mod OneHistory
 pub mod Order
 pub mod Settled

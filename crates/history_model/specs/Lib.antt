@@ -5,4 +5,5 @@ pub mod Plain
 pub mod Plan
 pub mod Rules
 pub mod Sent
+pub mod Sized
 pub mod Text

@@ -7,4 +7,4 @@ mod laws;
 pub use examples::{
     faults_of_plans_by_example, histories_by_example, lines_by_example, plans_by_example,
 };
-pub use laws::{file_order_is_legal, step_is_settled};
+pub use laws::{file_order_is_legal, step_is_settled, text_tells_the_history};

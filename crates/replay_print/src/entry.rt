@@ -4,7 +4,7 @@ ghost use Rattle.replay_print.specs.Lines.{entry_line};
 ghost use Rattle.replay_print.specs.Parts.{name_text, outcome_text};
 
 use crate::laws::LONGEST_LINE;
-use crate::names::{status_name, word_name};
+use crate::names::status_name;
 use crate::pieces::{append_data, append_lettered, lettered_len, make_line_room};
 use cp_base::{Bytes, NoMemory, Status};
 use script_cmds::CommandWord;
@@ -58,7 +58,7 @@ fn append_outcome(out: &mut Bytes, word: CommandWord, status: Status, value: u64
     ensures spare { out.new.spare + length (outcome_text word status value) ≡ out.old.spare }
 {
     out.append(b" ");
-    out.append(word_name(word).as_bytes());
+    out.append(word.text());
     out.append(b" ");
     out.append(status_name(status).as_bytes());
     append_lettered(out, " r=", value);
@@ -80,7 +80,7 @@ fn outcome_len(word: CommandWord, status: Status, value: u64) -> u64
     ensures value { result ≡ length (outcome_text word status value) }
     ensures bounded { result ≤ 47 }
 {
-    let names = word_name(word).len() + status_name(status).len() + 2;
+    let names = word.text().len() + status_name(status).len() + 2;
     names as u64 + lettered_len(" r=", value)
 }
 

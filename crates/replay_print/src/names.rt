@@ -1,10 +1,8 @@
-// The words of commands and statuses.
+// The names of statuses.
 ghost use Rattle.std.specs.Prelude.{◌≡◌, ◌≤◌, length};
-ghost use Rattle.script_cmds.specs.Line.{word_text};
 ghost use Rattle.history_model.specs.Text.{status_text};
 
 use cp_base::Status;
-use script_cmds::CommandWord;
 
 /// The name of a status, as it stands in a history.
 pub fn status_name(status: Status) -> &'static str
@@ -36,29 +34,5 @@ pub fn status_name(status: Status) -> &'static str
         Status::CallDepth => "CallDepth",
         Status::BudgetSpent => "BudgetSpent",
         Status::NoMemory => "NoMemory",
-    }
-}
-
-// The word of a command, as it stands in a script and in a history.
-pub(crate) fn word_name(word: CommandWord) -> &'static str
-    ensures text { result.now ≡ word_text word }
-    ensures short { length result.now ≤ 10 }
-{
-    match word {
-        CommandWord::NvmRead => "nvmread",
-        CommandWord::NvmWrite => "nvmwrite",
-        CommandWord::NvmZeroes => "nvmzeroes",
-        CommandWord::NvmCopy => "nvmcopy",
-        CommandWord::MemRead => "memread",
-        CommandWord::MemWrite => "memwrite",
-        CommandWord::MemFill => "memfill",
-        CommandWord::MemCopy => "memcopy",
-        CommandWord::SetCreate => "setcreate",
-        CommandWord::SetDelete => "setdelete",
-        CommandWord::Load => "load",
-        CommandWord::Unload => "unload",
-        CommandWord::Activate => "activate",
-        CommandWord::Deactivate => "deactivate",
-        CommandWord::Execute => "execute",
     }
 }

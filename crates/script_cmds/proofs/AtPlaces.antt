@@ -1,9 +1,8 @@
 -- What stands at a place of what a line's fields say.
-use Rattle.std.proofs.Common.{◌≡◌, ℕ, List, map, Option, Some, None, refl, sym, ap, ◌∙◌}
+use Rattle.std.proofs.Common.{◌≡◌, ℕ, List, map, Some, None, ap, ◌∙◌}
 use Rattle.std.specs.Prelude.{slice_get, option_map}
 use Rattle.std.proofs.lemmas.Option.{slice_get-map}
 use Rattle.script_cmds.specs.declared.field.FieldValue.{FieldValue}
-use Rattle.script_cmds.specs.Field.{Value}
 use Rattle.script_cmds.specs.Reading.{value_view}
 
 pub at_some : (values : List FieldValue) (place : ℕ) (x : FieldValue) → slice_get values place ≡ Some x → slice_get (map value_view values) place ≡ Some (value_view x)

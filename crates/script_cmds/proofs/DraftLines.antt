@@ -1,12 +1,8 @@
 -- The lines of a script that is being read, one more at a time.
-use Rattle.std.proofs.Common.{◌≡◌, ℕ, zero, suc, ◌+◌, ◌-◌, ◌<◌, ◌≤◌, Bool, true, false, not, ◌&&◌, cond, eqb, List, [], ◌∷◌, ◌++◌, length, replicate, Option, Some, None, Result, Ok, Err, refl, sym, ap, subst, ◌∙◌, append_assoc, arith}
-use Rattle.std.specs.List.{list_all, slice_set}
+use Rattle.std.proofs.Common.{◌≡◌, ℕ, zero, suc, ◌+◌, ◌<◌, ◌≤◌, Bool, true, false, ◌&&◌, cond, eqb, List, [], ◌∷◌, ◌++◌, length, Result, Ok, Err, refl, sym, ap, ◌∙◌, append_assoc, arith}
+use Rattle.std.specs.List.{slice_set}
 use Rattle.std.proofs.lemmas.List.{append-nil}
-use Rattle.cp_base.specs.Configuration.{Configuration, IsWithinLimits, with_size, bare}
-use Rattle.cp_base.specs.declared.region.SpaceId.TheVariants as space
-use Rattle.script_cmds.specs.declared.draft.Draft.{Draft}
 use Rattle.script_cmds.specs.declared.fault.TextCause.{TextCause}
-use Rattle.script_cmds.specs.declared.fault.TextCause.TheVariants as cause
 use Rattle.script_cmds.specs.declared.item.Item.{Item}
 use Rattle.script_cmds.specs.declared.item.HostPart.{HostPart}
 use Rattle.script_cmds.specs.declared.item.Phase as declared
@@ -14,13 +10,10 @@ use Rattle.script_cmds.specs.declared.item.Show.{Show}
 use Rattle.script_cmds.specs.declared.kind.LineKind.{LineKind}
 use Rattle.script_cmds.specs.declared.kind.LineKind.TheVariants as line
 use Rattle.script_cmds.specs.declared.progress.Progress.{Progress}
-use Rattle.script_cmds.specs.declared.progress.Stage.{Stage}
-use Rattle.script_cmds.specs.declared.progress.Stage.TheVariants.{AtStart, AfterHeader, AfterNvm, AfterMem, InPhase, InPart, AfterShow}
-use Rattle.script_cmds.specs.Drafts.{open_part_lines, open_lines, header_lines, lines_so_far, draft_lines, IsZeroFrom, HasNothing, IsTidy, are_built_lines, IsDraft}
+use Rattle.script_cmds.specs.Drafts.{IsZeroFrom, are_built_lines}
 use Rattle.script_cmds.specs.Fault.{◌>>=◌, judged, after_lines, is_built_kind}
 use Rattle.script_cmds.specs.Line.{Line, line_text}
-use Rattle.script_cmds.specs.Progress.{start, is_in_order, is_within_limits, advanced, is_start, is_after_show, is_in_part, mem_follows, host_follows}
-use Rattle.script_cmds.specs.Text.{numbers_line, size_lines, configuration_lines, item_line, item_lines, part_lines, phase_lines, show_line, show_lines, lines_text}
+use Rattle.script_cmds.specs.Text.{numbers_line, size_lines, item_line, item_lines, part_lines, phase_lines, show_line, show_lines, lines_text}
 
 -- ---- one more line
 

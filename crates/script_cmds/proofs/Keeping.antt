@@ -1,13 +1,12 @@
 -- When a configuration with one more namespace keeps the limits.
-use Rattle.std.proofs.Common.{◌≡◌, ℕ, zero, suc, ◌+◌, ◌*◌, ◌-◌, ◌<◌, ◌≤◌, Bool, true, false, ◌&&◌, leb, ltb, eqb, List, [], ◌∷◌, length, sum, get_or, Option, Some, None, refl, sym, ap, ◌∙◌, arith, inl, inr, ◌⊎◌, ◌↔◌, cond, subst, IsSome, IfSome, get_or-set_same}
-use Rattle.std.specs.List.{All, slice_set}
-use Rattle.std.proofs.lemmas.Bool.{le-leb, leb-true, leb-false}
-use Rattle.std.proofs.lemmas.Bool.Decides.{nat_tests}
+use Rattle.std.proofs.Common.{◌≡◌, ℕ, zero, suc, ◌*◌, ◌<◌, ◌≤◌, Bool, true, false, ◌&&◌, leb, List, length, get_or, Option, Some, None, refl, sym, ap, ◌∙◌, arith, inl, inr, ◌⊎◌, ◌↔◌, cond, subst, IsSome, IfSome, get_or-set_same}
+use Rattle.std.specs.List.{All}
+use Rattle.std.proofs.lemmas.Bool.{le-leb, leb-true}
 use Rattle.std.proofs.lemmas.List.Elements.{All-set}
 use Rattle.std.proofs.Math.ListN.{set, length-set}
-use Rattle.cp_base.specs.Configuration.{Configuration, IsWithinLimits, HasNumber, with_size, bare}
+use Rattle.cp_base.specs.Configuration.{Configuration, IsWithinLimits, HasNumber, with_size}
 use Rattle.cp_base.specs.declared.region.SpaceId.TheVariants as space
-use Rattle.script_cmds.specs.Progress.{header_fits, namespace_fits, total_bytes, is_within}
+use Rattle.script_cmds.specs.Progress.{namespace_fits, total_bytes, is_within}
 
 pub mem_keeps : (c : Configuration) (n size : ℕ) → IsWithinLimits c → 1 ≤ n → n ≤ 8 → size ≤ 16777216 → total_bytes (with_size c (space.Mem n) size) ≤ 67108864 → IsWithinLimits (with_size c (space.Mem n) size)
 mem_keeps c zero size l low high small total = absurd (omega arith)

@@ -3,9 +3,14 @@ pub mod AtPlaces
 pub mod CutTexts
 pub mod DraftLines
 pub mod Keeping
+pub mod Marks
+pub mod OneText
 pub mod Outcomes
+pub mod Printed
 pub mod Puts
+pub mod ReadAgain
 pub mod Shapes
 pub mod Spelled
 pub mod Triples
 pub mod WholeTexts
+pub mod Walk

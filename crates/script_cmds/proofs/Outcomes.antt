@@ -1,10 +1,10 @@
 -- What the fields of a line say, read one by one from the left.
-use Rattle.std.proofs.Common.{◌≡◌, ℕ, zero, suc, ◌+◌, ◌<◌, ◌≤◌, Bool, true, false, cond, leb, List, [], ◌∷◌, ◌++◌, Option, Some, None, Result, Ok, Err, refl, sym, ap, ◌∙◌, append_assoc, arith, inl, inr, ◌⊎◌}
+use Rattle.std.proofs.Common.{◌≡◌, ℕ, ◌<◌, ◌≤◌, true, false, leb, List, [], ◌∷◌, ◌++◌, Option, Some, None, Result, Ok, Err, refl, sym, ap, ◌∙◌, append_assoc, arith, inl, inr, ◌⊎◌}
 use Rattle.std.proofs.lemmas.Bool.{leb-true, leb-false}
 use Rattle.std.proofs.lemmas.List.{append-nil}
 use Rattle.script_cmds.specs.declared.fault.TextCause.{TextCause}
 use Rattle.script_cmds.specs.declared.fault.TextCause.TheVariants as cause
-use Rattle.script_cmds.specs.Field.{Field, Value, parts_between, rank_of, first_of_two, both, read_field, read_fields}
+use Rattle.script_cmds.specs.Field.{Field, Value, parts_between, rank_of, first_of_two, both, read_fields}
 use Rattle.script_cmds.proofs.CutTexts.{is_some_part}
 use Rattle.script_cmds.specs.Reading.{noted, so_far, followed}
 

@@ -1,15 +1,13 @@
 -- What a line of each kind adds to a script that is being read.
-use Rattle.std.proofs.Common.{◌≡◌, ℕ, zero, suc, ◌+◌, ◌-◌, ◌*◌, ◌<◌, ◌≤◌, Bool, true, false, not, ◌&&◌, cond, eqb, leb, ltb, List, [], ◌∷◌, ◌++◌, length, replicate, map, Option, Some, None, Result, Ok, Err, Vec, Global, refl, sym, ap, subst, ◌∙◌, append_assoc, arith}
+use Rattle.std.proofs.Common.{◌≡◌, ℕ, zero, suc, ◌+◌, ◌*◌, ◌<◌, ◌≤◌, Bool, true, false, not, ◌&&◌, cond, eqb, leb, ltb, List, [], ◌∷◌, ◌++◌, length, replicate, Option, Some, None, Ok, Err, Vec, Global, refl, sym, ap, subst, ◌∙◌, append_assoc, arith}
 use Rattle.std.specs.List.{slice_set}
 use Rattle.std.specs.Prelude.{codes, slice_get, unwrap_or}
 use Rattle.std.proofs.lemmas.Option.{get_or_from_slice_get, slice_get_within}
 use Rattle.std.proofs.lemmas.Bool.{eqb-true, leb-true, ltb-true}
 use Rattle.std.proofs.lemmas.List.{append-nil}
-use Rattle.cp_base.specs.Configuration.{Configuration, IsWithinLimits, with_size, bare, size_of, present, numbered}
-use Rattle.cp_base.specs.declared.region.SpaceId.{SpaceId}
+use Rattle.cp_base.specs.Configuration.{Configuration, IsWithinLimits, with_size, bare, size_of, present}
 use Rattle.cp_base.specs.declared.region.SpaceId.TheVariants as space
 use Rattle.script_cmds.specs.declared.draft.Draft.{Draft}
-use Rattle.script_cmds.specs.declared.fault.TextCause.{TextCause}
 use Rattle.script_cmds.specs.declared.fault.TextCause.TheVariants as cause
 use Rattle.script_cmds.specs.declared.item.Item.{Item}
 use Rattle.script_cmds.specs.declared.item.HostPart.{HostPart}
@@ -23,10 +21,10 @@ use Rattle.script_cmds.specs.declared.progress.Stage.TheVariants.{AtStart, After
 use Rattle.script_cmds.specs.declared.word.CommandWord.{CommandWord}
 use Rattle.script_cmds.specs.Drafts.{open_part_lines, open_lines, header_lines, lines_so_far, draft_lines, IsZeroFrom, HasNothing, IsTidy, are_built_lines, IsDraft}
 use Rattle.script_cmds.specs.Fault.{judged, after_lines, is_built_kind}
-use Rattle.script_cmds.specs.Field.{Field, Number, Value, Count}
+use Rattle.script_cmds.specs.Field.{Value}
 use Rattle.script_cmds.specs.Line.{Line, counts, fields_of}
 use Rattle.script_cmds.specs.Reading.{IsShaped}
-use Rattle.script_cmds.specs.Progress.{start, is_in_order, is_within_limits, advanced, is_start, is_after_show, is_in_part, mem_follows, host_follows, number_at, number_in, namespace_fits, show_fits, is_within, total_bytes}
+use Rattle.script_cmds.specs.Progress.{start, is_in_order, is_within_limits, advanced, is_start, is_after_show, is_in_part, mem_follows, host_follows, number_at, show_fits, is_within}
 use Rattle.script_cmds.specs.Text.{numbers_line, size_lines, configuration_lines, item_lines, part_lines, phase_lines, show_lines}
 use Rattle.script_cmds.proofs.DraftLines.{after_one_more, built_one_more, size_one_more, zero_one_more}
 use Rattle.script_cmds.proofs.Shapes.{no_value, one_value, two_values, three_values}

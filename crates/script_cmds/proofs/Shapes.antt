@@ -1,12 +1,9 @@
 -- The values of a line by the kinds of its fields.
-use Rattle.std.proofs.Common.{◌≡◌, ℕ, suc, ◌≤◌, Bool, true, false, List, [], ◌∷◌, ◌++◌, map, Option, Some, None, refl, sym, ap, ◌∙◌}
-use Rattle.std.proofs.lemmas.Bool.{leb-true}
+use Rattle.std.proofs.Common.{◌≡◌, ℕ, List, [], ◌∷◌, ◌++◌, map, Option, Some, None, refl, sym, ap, ◌∙◌}
 use Rattle.script_cmds.specs.declared.field.FieldValue.{FieldValue}
-use Rattle.script_cmds.specs.declared.kind.LineKind.TheVariants as line
-use Rattle.script_cmds.specs.declared.word.CommandWord.TheVariants as word
-use Rattle.script_cmds.specs.Field.{Field, Number, Hex, Value, Count, Data, Copied, Covered}
-use Rattle.script_cmds.specs.Line.{counts, fields_of}
-use Rattle.script_cmds.specs.Progress.{number_at, command_fits}
+use Rattle.script_cmds.specs.Field.{Number, Hex, Value, Count, Data}
+use Rattle.script_cmds.specs.Line.{counts}
+use Rattle.script_cmds.specs.Progress.{number_at}
 use Rattle.script_cmds.specs.Reading.{IsShaped, value_view}
 use Rattle.script_cmds.specs.Said.{bytes_in}
 

@@ -1,11 +1,11 @@
 -- Three numbers with colons between, and lists of what is read one by one.
-use Rattle.std.proofs.Common.{◌≡◌, ℕ, ◌+◌, suc, List, [], ◌∷◌, ◌++◌, length, Option, Some, None, Result, Ok, Err, refl, sym, ap, ◌∙◌}
+use Rattle.std.proofs.Common.{◌≡◌, ℕ, suc, List, [], ◌∷◌, ◌++◌, length, Option, Some, None, Result, Ok, Err, refl, sym, ap, ◌∙◌}
 use Rattle.cp_text.specs.Number.{number_of}
 use Rattle.script_cmds.specs.declared.fault.TextCause.{TextCause}
 use Rattle.script_cmds.specs.declared.fault.TextCause.TheVariants as cause
 use Rattle.script_cmds.specs.declared.field.Triple.{Triple}
 use Rattle.script_cmds.specs.Field.{both, changed, or_cause, parts_between, read_each, read_triple}
-use Rattle.script_cmds.specs.Reading.{noted, so_far, followed}
+use Rattle.script_cmds.specs.Reading.{noted, followed}
 use Rattle.script_cmds.proofs.CutTexts.{is_some_part}
 use Rattle.script_cmds.proofs.Outcomes.{said, faulty}
 

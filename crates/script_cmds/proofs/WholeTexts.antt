@@ -1,13 +1,10 @@
 -- Lines and whole texts: what is read is spelled so, and the first fault is told.
-use Rattle.std.proofs.Common.{◌≡◌, ℕ, zero, suc, ◌+◌, ◌-◌, ◌<◌, ◌≤◌, Bool, true, false, not, ◌&&◌, cond, eqb, List, [], ◌∷◌, ◌++◌, length, Option, Some, None, Result, Ok, Err, refl, sym, ap, subst, ◌∙◌, append_assoc, arith}
-use Rattle.std.specs.Prelude.{count_by, is_ok}
+use Rattle.std.proofs.Common.{◌≡◌, ℕ, ◌+◌, ◌≤◌, Bool, true, false, ◌&&◌, cond, eqb, List, [], ◌∷◌, ◌++◌, length, Option, None, Result, Ok, Err, refl, sym, ap, subst, ◌∙◌, append_assoc, arith}
 use Rattle.std.specs.List.{list_all}
-use Rattle.std.proofs.lemmas.List.{append-nil, length-append}
 use Rattle.std.proofs.lemmas.List.Sums.{sum_by-append}
 use Rattle.cp_base.specs.Built.{is_built}
 use Rattle.cp_base.specs.declared.commands.Command.{Command}
 use Rattle.cp_base.specs.declared.commands.Command.TheVariants as command
-use Rattle.script_cmds.specs.declared.draft.Draft.{Draft}
 use Rattle.script_cmds.specs.declared.fault.LineEnd.{LineEnd}
 use Rattle.script_cmds.specs.declared.fault.LineEnd.TheVariants as ends
 use Rattle.script_cmds.specs.declared.fault.TextCause.{TextCause}
@@ -21,18 +18,16 @@ use Rattle.script_cmds.specs.declared.item.Item.TheVariants as item
 use Rattle.script_cmds.specs.declared.item.HostPart.{HostPart}
 use Rattle.script_cmds.specs.declared.item.Phase as declared
 use Rattle.script_cmds.specs.declared.kind.LineKind.{LineKind}
-use Rattle.script_cmds.specs.declared.kind.LineKind.TheVariants as line
 use Rattle.script_cmds.specs.declared.progress.Progress.{Progress}
-use Rattle.script_cmds.specs.declared.progress.Stage.{Stage}
 use Rattle.script_cmds.specs.declared.script.Script.{Script}
-use Rattle.script_cmds.specs.Drafts.{are_built_lines, draft_lines, IsDraft, newlines}
-use Rattle.script_cmds.specs.Fault.{◌>>=◌, unless, line_of, judged, read_line, after_lines, fault_at, fault_or, fault_from, first_fault, is_built_kind, is_built_word}
-use Rattle.script_cmds.specs.Kept.{is_built_item, are_built, KeepsOrderAndLimits}
-use Rattle.script_cmds.specs.Field.{Field, Value, parts_between, joined_by, field_texts, read_fields}
+use Rattle.script_cmds.specs.Drafts.{are_built_lines, newlines}
+use Rattle.script_cmds.specs.Fault.{◌>>=◌, unless, line_of, read_line, fault_at, fault_or, fault_from, is_built_kind, is_built_word}
+use Rattle.script_cmds.specs.Kept.{is_built_item, are_built}
+use Rattle.script_cmds.specs.Field.{Value, parts_between, joined_by, read_fields}
 use Rattle.script_cmds.specs.Line.{Line, kind_of, fields_of, line_text, word_of}
-use Rattle.script_cmds.specs.Progress.{start, is_start}
+use Rattle.script_cmds.specs.Progress.{is_start}
 use Rattle.script_cmds.specs.Reading.{Fails, IsShaped}
-use Rattle.script_cmds.specs.Text.{lines_of, lines_text, script_text, numbers_line, item_line, item_lines, part_lines, phase_lines, show_lines, configuration_lines}
+use Rattle.script_cmds.specs.Text.{lines_of, lines_text, item_lines, part_lines, phase_lines, show_lines, configuration_lines}
 use Rattle.script_cmds.proofs.CutTexts.{is_some_part, joined_again}
 use Rattle.script_cmds.proofs.Spelled.{fields_spelled, ok_is}
 
@@ -72,7 +67,7 @@ fails_then {A} (ends.Fault c) r f h = ap (λ (x : Result A TextCause). x >>= f) 
 
 -- ---- faults
 
-fault_two : (p : Progress) (n : ℕ) (text part : List ℕ) (parts : List (List ℕ)) → fault_from p n (text ∷ part ∷ parts) ≡ fault_or n (read_line p text) (λ p'. fault_from p' (n + 1) (part ∷ parts))
+pub fault_two : (p : Progress) (n : ℕ) (text part : List ℕ) (parts : List (List ℕ)) → fault_from p n (text ∷ part ∷ parts) ≡ fault_or n (read_line p text) (λ p'. fault_from p' (n + 1) (part ∷ parts))
 fault_two p n [] part parts = refl
 fault_two p n (b ∷ bs) part parts = refl
 

@@ -1,5 +1,5 @@
 -- What a script that is being read says so far.
-use Rattle.std.specs.Prelude.{◌≡◌, ℕ, zero, suc, ◌<◌, Bool, true, false, List, [], ◌∷◌, ◌++◌, All, count_by, ◌==◌, Result, Ok, slice_index, if◌then◌else◌}
+use Rattle.std.specs.Prelude.{◌≡◌, ℕ, zero, suc, Bool, true, List, [], ◌∷◌, ◌++◌, count_by, ◌==◌, Ok}
 use Rattle.std.specs.List.{list_all}
 use Rattle.cp_base.specs.Configuration.{Configuration, IsWithinLimits}
 use Rattle.script_cmds.specs.declared.draft.Draft.{Draft}

@@ -1,5 +1,5 @@
 -- The fields of a line: what each kind of field is, its one text, and how it is read. This project's own.
-use Rattle.std.specs.Prelude.{ℕ, ◌==◌, nat_le, Bool, true, List, [], ◌∷◌, ◌++◌, Option, Some, None, Result, Ok, Err, if◌then◌else◌, map, decimal}
+use Rattle.std.specs.Prelude.{ℕ, ◌==◌, nat_le, List, [], ◌∷◌, ◌++◌, Option, Some, None, Result, Ok, Err, if◌then◌else◌, map, decimal}
 use Rattle.std.specs.Str.{bytes_eq}
 use Rattle.cp_text.specs.HexText.{hex_of, hex_text}
 use Rattle.cp_text.specs.Number.{number_of}

@@ -8,3 +8,5 @@ pub mod Drafts
 pub mod Ends
 pub mod Kept
 pub mod Said
+pub mod Printing
+pub mod Sized

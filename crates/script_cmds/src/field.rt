@@ -1,8 +1,9 @@
 // The fields of a line, and what they say.
 ghost use Rattle.std.specs.Prelude.{◌≡◌, Some, map};
 ghost use Rattle.script_cmds.specs.Field.{mem_range};
+ghost use Rattle.script_cmds.specs.Printing.{front_of, is_word};
 ghost use Rattle.script_cmds.specs.Progress.{number_at, number_in, ranges_at, ranges_in, source_space, sources_at, sources_in};
-ghost use Rattle.script_cmds.specs.Reading.{source_view, value_view};
+ghost use Rattle.script_cmds.specs.Reading.{field_view, source_view, value_view};
 ghost use Rattle.script_cmds.specs.Said.{bytes_in};
 
 use cp_base::Bytes;
@@ -45,6 +46,29 @@ pub enum FieldValue {
     Data(Bytes),
     Copied(Vec<SourceText>),
     Covered(Vec<Triple>),
+}
+
+impl Field {
+    /// The word, or the name in front of what the field says.
+    pub fn front(self) -> &'static [u8]
+        ensures { result.now ≡ front_of (field_view self) }
+    {
+        match self {
+            Field::Word(text) => text,
+            Field::Number(name) | Field::Hex(name) | Field::Sources(name) | Field::Ranges(name) =>
+                name,
+        }
+    }
+
+    /// Whether it is a word.
+    pub fn is_word(self) -> bool
+        ensures { result ≡ is_word (field_view self) }
+    {
+        match self {
+            Field::Word(_) => true,
+            Field::Number(_) | Field::Hex(_) | Field::Sources(_) | Field::Ranges(_) => false,
+        }
+    }
 }
 
 impl SourceText {

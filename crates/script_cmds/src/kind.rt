@@ -1,5 +1,5 @@
 // The kinds of line, by their words, and the table of their fields.
-ghost use Rattle.std.specs.Prelude.{◌≡◌, ◌++◌, map, option_map};
+ghost use Rattle.std.specs.Prelude.{◌≡◌, ◌++◌, ◌<◌, length, map, option_map};
 ghost use Rattle.script_cmds.specs.Field.{parts_between};
 ghost use Rattle.script_cmds.specs.Line.{kind_of, send_kind, show_kind, line_fields};
 ghost use Rattle.script_cmds.specs.Reading.{field_view, parts_of};
@@ -62,7 +62,8 @@ impl LineKind {
     /// The fields of a line in their order. Those of a command stand in `CommandWord::fields`, behind
     /// these.
     pub fn fields(self) -> &'static [Field]
-        ensures { map field_view result.now ≡ line_fields self }
+        ensures fields { map field_view result.now ≡ line_fields self }
+        ensures some { 0 < length result.now }
     {
         match self {
             LineKind::Header => &[

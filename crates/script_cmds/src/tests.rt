@@ -1,7 +1,11 @@
 // Texts that are no scripts, and one that is.
 use super::*;
-use cp_base::Bytes;
+use cp_base::{
+    ByteRange, Bytes, Command, Config, CopySource, MemRange, RangeList, Sequence, SourceList,
+    SpaceId,
+};
 use std::alloc::Global;
+use std::sync::Arc;
 use std::test::Fail;
 
 // The texts of the header and of what stands before most lines.
@@ -146,8 +150,129 @@ fn scripts(rt: HostRuntime) -> Result<(), Fail> {
         "nvmecp 1 block=512 depth=1 budget=1\nphase\nhost 1\nsend 0 memread ns=4294967295 at=18446744073709551615 len=0\nsend 1 memwrite ns=0 at=0 data=\n",
     ];
     for text in table {
-        assert!(rt; parsed(rt.alloc(), "", text)?.is_ok(), "{text}");
+        let script = parsed(rt.alloc(), "", text)?.ok().ok_or("no script")?;
+        assert_eq!(rt; print(rt.alloc(), &script)?.as_slice(), text.as_bytes());
     }
+    Ok(())
+}
+
+// Adds a send of a command.
+fn add(alloc: Global, items: &mut Vec<Item>, command: Command) -> Result<(), Fail> {
+    let command = Arc::new(alloc, command)?;
+    items.push(Item::Send { cid: 7, command })?;
+    Ok(())
+}
+
+// Adds a send of each command on namespaces.
+fn add_commands(alloc: Global, items: &mut Vec<Item>) -> Result<(), Fail> {
+    let (ns, lba, at, count, len) = (1, 0, 0, 2, 2);
+    let blocks = CopySource::Nvm {
+        ns: 2,
+        lba: 0,
+        count: u64::MAX,
+    };
+    let sources = [blocks, CopySource::Mem { ns: 1, at: 5, len }];
+    let from = SourceList::new(alloc, &sources).ok_or("no list")?;
+    let bytes = Bytes::from_slice(alloc, &[0, 255])?;
+    add(alloc, items, Command::NvmRead { ns, lba, count })?;
+    add(alloc, items, Command::NvmWrite { ns, lba, bytes })?;
+    add(alloc, items, Command::NvmZeroes { ns, lba, count })?;
+    add(alloc, items, Command::NvmCopy { ns, lba, from })?;
+    let from = SourceList::new(alloc, &[blocks]).ok_or("no list")?;
+    let bytes = Bytes::new(alloc);
+    let value = 255;
+    add(alloc, items, Command::MemRead { ns, at, len })?;
+    add(alloc, items, Command::MemWrite { ns, at, bytes })?;
+    add(alloc, items, Command::MemFill { ns, at, len, value })?;
+    add(alloc, items, Command::MemCopy { ns, at, from })
+}
+
+// Adds a send of each command on sets and slots.
+fn add_programs(alloc: Global, items: &mut Vec<Item>) -> Result<(), Fail> {
+    let (slot, set, size, at) = (1, u32::MAX, 8, 0);
+    let range = MemRange {
+        ns: 1,
+        at: 2,
+        len: 3,
+    };
+    let ranges = RangeList::new(alloc, &[range, range]).ok_or("no list")?;
+    let bytes = Bytes::from_slice(alloc, &[149])?;
+    add(alloc, items, Command::SetCreate { ranges })?;
+    add(alloc, items, Command::SetDelete { set })?;
+    add(
+        alloc,
+        items,
+        Command::Load {
+            slot,
+            size,
+            at,
+            bytes,
+        },
+    )?;
+    add(alloc, items, Command::Unload { slot })?;
+    add(alloc, items, Command::Activate { slot })?;
+    add(alloc, items, Command::Deactivate { slot })?;
+    let (p1, p2, budget) = (3, 4, 5);
+    add(
+        alloc,
+        items,
+        Command::Execute {
+            slot,
+            set,
+            p1,
+            p2,
+            budget,
+        },
+    )
+}
+
+// A script with a line of each kind and a send of each command.
+fn full_script(alloc: Global) -> Result<Script, Fail> {
+    let config = Config::new(512, 16, 1000).ok_or("no header")?;
+    let config = config.with_size(SpaceId::Nvm(2), 8).ok_or("no nvm")?;
+    let config = config.with_size(SpaceId::Mem(1), 64).ok_or("no mem")?;
+    let mut items = Vec::new(alloc);
+    add_commands(alloc, &mut items)?;
+    add_programs(alloc, &mut items)?;
+    items.push(Item::Take { cid: 7 })?;
+    let mut hosts = Vec::new(alloc);
+    let items = Sequence::new(items);
+    hosts.push(HostPart { host: 3, items })?;
+    let mut phases = Vec::new(alloc);
+    let hosts = Sequence::new(hosts);
+    phases.push(Phase { hosts })?;
+    let mut shows = Vec::new(alloc);
+    for (space, start, len) in [(SpaceId::Nvm(2), 0, 512), (SpaceId::Mem(1), 60, 4)] {
+        let range = ByteRange::new(space, start, len).ok_or("no range")?;
+        shows.push(Show { range })?;
+    }
+    let phases = Sequence::new(phases);
+    let shows = Sequence::new(shows);
+    Ok(Script {
+        config,
+        phases,
+        shows,
+    })
+}
+
+#[test]
+fn each_line_is_printed(rt: HostRuntime) -> Result<(), Fail> {
+    let wanted =
+        "nvmecp 1 block=512 depth=16 budget=1000\nnvm 2 blocks=8\nmem 1 bytes=64\nphase\nhost 3\n\
+        send 7 nvmread ns=1 lba=0 count=2\nsend 7 nvmwrite ns=1 lba=0 data=00ff\n\
+        send 7 nvmzeroes ns=1 lba=0 count=2\n\
+        send 7 nvmcopy ns=1 lba=0 from=n2:0:18446744073709551615,m1:5:2\n\
+        send 7 memread ns=1 at=0 len=2\nsend 7 memwrite ns=1 at=0 data=\n\
+        send 7 memfill ns=1 at=0 len=2 value=255\n\
+        send 7 memcopy ns=1 at=0 from=n2:0:18446744073709551615\n\
+        send 7 setcreate ranges=1:2:3,1:2:3\nsend 7 setdelete set=4294967295\n\
+        send 7 load slot=1 size=8 at=0 data=95\nsend 7 unload slot=1\n\
+        send 7 activate slot=1\nsend 7 deactivate slot=1\n\
+        send 7 execute slot=1 set=4294967295 p1=3 p2=4 budget=5\ntake 7\n\
+        show nvm 2 at=0 len=512\nshow mem 1 at=60 len=4\n";
+    let script = full_script(rt.alloc())?;
+    let text = print(rt.alloc(), &script)?;
+    assert_eq!(rt; text.as_slice(), wanted.as_bytes());
     Ok(())
 }
 

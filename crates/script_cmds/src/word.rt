@@ -1,5 +1,5 @@
 // The words that name commands in a script and in a history, and the table of their fields.
-ghost use Rattle.std.specs.Prelude.{◌≡◌, map, find};
+ghost use Rattle.std.specs.Prelude.{◌≡◌, ◌<◌, ◌≤◌, length, map, find};
 ghost use Rattle.std.specs.Str.{bytes_eq};
 ghost use Rattle.script_cmds.specs.Line.{command_fields, command_word, word_text};
 ghost use Rattle.script_cmds.specs.Reading.{field_view};
@@ -55,7 +55,8 @@ impl CommandWord {
 
     /// The word's text.
     pub fn text(self) -> &'static [u8]
-        ensures { result.now ≡ word_text self }
+        ensures text { result.now ≡ word_text self }
+        ensures short { length result.now ≤ 10 }
     {
         match self {
             CommandWord::NvmRead => b"nvmread",
@@ -78,7 +79,8 @@ impl CommandWord {
 
     /// The fields that stand behind the word, in their order.
     pub fn fields(self) -> &'static [Field]
-        ensures { map field_view result.now ≡ command_fields self }
+        ensures fields { map field_view result.now ≡ command_fields self }
+        ensures some { 0 < length result.now }
     {
         match self {
             CommandWord::NvmRead | CommandWord::NvmZeroes => &[

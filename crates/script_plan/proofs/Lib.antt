@@ -3,5 +3,4 @@ pub mod Counting
 pub mod Keeping
 pub mod Queue
 pub mod Steps
-pub mod Walk
 pub mod Whole

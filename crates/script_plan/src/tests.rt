@@ -4,11 +4,12 @@ ghost use Rattle.history_model.specs.Plan.{lines_of_parts};
 ghost use Rattle.script_cmds.specs.Text.{lines_of};
 
 use crate::count::configuration_lines;
-use crate::{PlanCause, PlanEnd, PlanFault, plan};
-use cp_base::{Command, Config, Sequence, SpaceId};
-use script_cmds::{HostPart, Item, Phase, Script};
+use crate::{Plan, PlanCause, PlanEnd, PlanFault, plan};
+use cp_base::{Bytes, Command, Config, Sequence, SpaceId};
+use script_cmds::{HostPart, Item, Phase, Script, parse};
 use std::alloc::{AllocError, Global};
 use std::sync::Arc;
+use std::test::Fail;
 
 // A send or a take of an identifier.
 #[derive(Clone, Copy, Debug, PartialEq, Eq)]
@@ -65,6 +66,7 @@ fn are_acts(items: &[Item], acts: &[Act]) -> bool {
             (Item::Send { cid, command }, Send(sent)) => {
                 let own = match &**command {
                     Command::Unload { slot } => *slot == sent,
+                    Command::MemRead { at, .. } => *at == u64::from(sent),
                     _ => false,
                 };
                 *cid == sent && own
@@ -163,5 +165,76 @@ fn refuses_a_phase_without_hosts(rt: HostRuntime) -> Result<(), AllocError> {
         cause: PlanCause::NoHosts,
     };
     assert!(rt; plan(alloc, &script).err() == Some(PlanEnd::Fault(want)));
+    Ok(())
+}
+
+// The plan of a script of less than 100,000 bytes.
+fn planned(alloc: Global, text: &[u8]) -> Result<Result<Plan, PlanEnd>, Fail> {
+    if text.len() > 100_000 {
+        return Err("the script is too long".into());
+    }
+    let text = Bytes::from_slice(alloc, text)?;
+    let script = parse(alloc, &text).ok().ok_or("no script")?;
+    Ok(plan(alloc, &script))
+}
+
+#[test]
+fn a_host_comes_back(rt: HostRuntime) -> Result<(), Fail> {
+    let front = "nvmecp 1 block=512 depth=2 budget=1\nmem 1 bytes=16\nphase\nhost 1\n\
+        send 1 memread ns=1 at=1 len=1\nsend 2 memread ns=1 at=2 len=1\nphase\nhost 1\n";
+    let more = "send 1 memread ns=1 at=1 len=1\ntake 1\n";
+    let text = format!(in rt.alloc(); "{front}{more}")?;
+    let plan = planned(rt.alloc(), text.as_str().as_bytes())?
+        .ok()
+        .ok_or("no plan")?;
+    assert_eq!(rt; plan.commands, 3);
+    let wanted: [&[Act]; 2] = [
+        &[Send(1), Send(2), Take(1), Take(2)],
+        &[Send(1), Take(1)],
+    ];
+    assert_eq!(rt; plan.phases.as_slice().len(), 2);
+    for (phase, acts) in plan.phases.as_slice().iter().zip(wanted) {
+        assert_eq!(rt; phase.hosts.as_slice().len(), 1);
+        for part in phase.hosts.as_slice() {
+            assert!(rt; are_acts(part.items.as_slice(), acts), "{acts:?}");
+        }
+    }
+    let text = format!(in rt.alloc(); "{front}take 2\n")?;
+    let want = PlanFault {
+        line: 9,
+        cause: PlanCause::NotOutstanding,
+    };
+    let told = planned(rt.alloc(), text.as_str().as_bytes())?.err();
+    assert!(rt; told == Some(PlanEnd::Fault(want)));
+    Ok(())
+}
+
+#[test]
+fn the_deepest_queue_fills(rt: HostRuntime) -> Result<(), Fail> {
+    let front = "nvmecp 1 block=512 depth=256 budget=1\nmem 1 bytes=16\nphase\nhost 1\n";
+    let mut text = Vec::from_slice(rt.alloc(), front.as_bytes())?;
+    let mut acts = Vec::new(rt.alloc());
+    for cid in 0..256u32 {
+        let line = format!(in rt.alloc(); "send {cid} memread ns=1 at={cid} len=1\n")?;
+        text.extend_from_slice(line.as_str().as_bytes())?;
+        acts.push(Send(cid))?;
+    }
+    for cid in 0..256 {
+        acts.push(Take(cid))?;
+    }
+    let plan = planned(rt.alloc(), text.as_slice())?.ok().ok_or("no plan")?;
+    assert_eq!(rt; plan.commands, 256);
+    for phase in plan.phases.as_slice() {
+        for part in phase.hosts.as_slice() {
+            assert!(rt; are_acts(part.items.as_slice(), acts.as_slice()));
+        }
+    }
+    text.extend_from_slice(b"send 256 memread ns=1 at=0 len=1\n")?;
+    let want = PlanFault {
+        line: 261,
+        cause: PlanCause::QueueFull,
+    };
+    let told = planned(rt.alloc(), text.as_slice())?.err();
+    assert!(rt; told == Some(PlanEnd::Fault(want)));
     Ok(())
 }

@@ -1,4 +1,4 @@
-use Rattle.std.proofs.Common.{◌≡◌, ◌∙◌, ◌∷◌, [], map, subst, sym}
+use Rattle.std.proofs.Common.{◌∙◌, ◌∷◌, [], map, subst, sym}
 use Rattle.std.specs.Prelude.{codes}
 use Rattle.script_cmds.specs.declared.kind.LineKind.TheVariants as line_kind
 use Rattle.script_cmds.specs.declared.word.CommandWord.{CommandWord}

@@ -1,6 +1,5 @@
-use Rattle.std.proofs.Common.{◌∙◌, map, option_map}
-use Rattle.script_cmds.specs.Field.{mem_range, parts_between, read_each, read_range}
-use Rattle.script_cmds.specs.Reading.{parts_of, followed}
+use Rattle.std.proofs.Common.{◌∙◌, option_map}
+use Rattle.script_cmds.specs.Reading.{parts_of}
 use Rattle.script_cmds.proofs.lists.read_ranges.Goals as goal
 
 pub loop-rest-preserved : goal.loop-rest-preserved

@@ -1,6 +1,5 @@
-use Rattle.std.proofs.Common.{◌∙◌, map, option_map}
-use Rattle.script_cmds.specs.Field.{parts_between, read_each, read_source}
-use Rattle.script_cmds.specs.Reading.{parts_of, followed, source_view}
+use Rattle.std.proofs.Common.{◌∙◌, option_map}
+use Rattle.script_cmds.specs.Reading.{parts_of}
 use Rattle.script_cmds.proofs.lists.read_sources.Goals as goal
 
 pub loop-rest-preserved : goal.loop-rest-preserved

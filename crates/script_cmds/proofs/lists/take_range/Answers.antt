@@ -1,6 +1,5 @@
-use Rattle.std.proofs.Common.{map, refl, sym}
-use Rattle.script_cmds.specs.Field.{mem_range, read_each, read_range}
-use Rattle.script_cmds.specs.Reading.{followed}
+use Rattle.std.proofs.Common.{map, refl}
+use Rattle.script_cmds.specs.Field.{mem_range, read_range}
 use Rattle.script_cmds.proofs.Triples.{each_err}
 use Rattle.script_cmds.proofs.lists.take_range.Goals as goal
 

@@ -1,6 +1,6 @@
-use Rattle.std.proofs.Common.{map, refl, sym}
-use Rattle.script_cmds.specs.Field.{read_each, read_source}
-use Rattle.script_cmds.specs.Reading.{followed, source_view}
+use Rattle.std.proofs.Common.{map, refl}
+use Rattle.script_cmds.specs.Field.{read_source}
+use Rattle.script_cmds.specs.Reading.{source_view}
 use Rattle.script_cmds.proofs.Triples.{each_err}
 use Rattle.script_cmds.proofs.lists.take_source.Goals as goal
 

@@ -1,11 +1,9 @@
-use Rattle.std.proofs.Common.{◌≡◌, ◌++◌, ◌∷◌, [], Ok, true, List, map, subst}
-use Rattle.script_cmds.specs.declared.draft.Draft.{Draft}
+use Rattle.std.proofs.Common.{◌≡◌, Ok, true, map, subst}
 use Rattle.script_cmds.specs.declared.kind.LineKind.{LineKind}
-use Rattle.script_cmds.specs.Drafts.{draft_lines}
 use Rattle.script_cmds.specs.Fault.{is_built_kind, judged}
 use Rattle.script_cmds.specs.Line.{fields_of}
 use Rattle.script_cmds.specs.Reading.{IsShaped, value_view}
-use Rattle.script_cmds.proofs.Puts.{Adds, adds_header, adds_host, adds_mem, adds_phase, adds_send, adds_show, adds_take, shown_inside}
+use Rattle.script_cmds.proofs.Puts.{adds_header, adds_host, adds_mem, adds_phase, adds_send, adds_show, adds_take, shown_inside}
 use Rattle.script_cmds.proofs.draft.Draft.put.Goals as goal
 
 pub returns-in-Header-clause-draft : goal.returns-in-Header-clause-draft
