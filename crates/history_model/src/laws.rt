@@ -1,12 +1,8 @@
 // Laws of the definitions. The functions do nothing: what they ensure is what is proved.
 ghost use Rattle.std.specs.Prelude.{◌≡◌, All, AllPairs, List};
 ghost use Rattle.device_model.specs.Step.{DeviceStep, outcome_of};
-<<<<<<< HEAD
-ghost use Rattle.history_model.specs.Legal.{after_status};
-=======
 ghost use Rattle.history_model.specs.Entry.{Entry};
-ghost use Rattle.history_model.specs.Legal.{IsLegal, after_status, next_of};
->>>>>>> d4232b778b8586d8be9326fe38b2dc1c7c99c029
+ghost use Rattle.history_model.specs.Legal.{IsLegal, after_status};
 ghost use Rattle.history_model.specs.Sent.{TakenBefore, sends_of};
 ghost use Rattle.history_model.specs.Sized.{IsSized};
 ghost use Rattle.history_model.specs.Text.{history_text};
