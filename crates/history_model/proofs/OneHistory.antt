@@ -211,8 +211,8 @@ line-tells k e f x y p q same =
     let E : List ℕ = told e.sent.host e.sent.ordinal e.sent.cid (word_of e.sent.command) e.answer.status e.answer.result e.answer.bytes x in
     let F : List ℕ = told f.sent.host f.sent.ordinal f.sent.cid (word_of f.sent.command) f.answer.status f.answer.result f.answer.bytes y in
     let nested : 35 ∷ decimal k ++ E ≡ 35 ∷ decimal k ++ F =
-        sym (spelled (decimal k) (decimal e.sent.host) (decimal e.sent.ordinal) (decimal e.sent.cid) (word_text (word_of e.sent.command)) (status_text e.answer.status) (decimal e.answer.result) (hex_text e.answer.bytes) x)
-        ∙ same ∙ spelled (decimal k) (decimal f.sent.host) (decimal f.sent.ordinal) (decimal f.sent.cid) (word_text (word_of f.sent.command)) (status_text f.answer.status) (decimal f.answer.result) (hex_text f.answer.bytes) y in
+    sym (spelled (decimal k) (decimal e.sent.host) (decimal e.sent.ordinal) (decimal e.sent.cid) (word_text (word_of e.sent.command)) (status_text e.answer.status) (decimal e.answer.result) (hex_text e.answer.bytes) x)
+    ∙ same ∙ spelled (decimal k) (decimal f.sent.host) (decimal f.sent.ordinal) (decimal f.sent.cid) (word_text (word_of f.sent.command)) (status_text f.answer.status) (decimal f.answer.result) (hex_text f.answer.bytes) y in
     let a = append_cancel_left (35 ∷ decimal k) E F nested in
     let b = cut-number e.sent.host f.sent.host _ _ p.host q.host (tail-same _ _ _ _ (tail-same _ _ _ _ a)) in
     let c = cut-number e.sent.ordinal f.sent.ordinal _ _ p.ordinal q.ordinal (tail-same _ _ _ _ b.1) in
@@ -258,6 +258,6 @@ one-history c plan shows hs gs p q a b same =
     let sent : Entry → Sent = λ e. e.sent in
     let sends = sends_of plan in
     let len : length hs ≡ length gs =
-        sym (length-map sent hs) ∙ sym (length_permutation (map sent hs) sends p.each_once) ∙ length_permutation (map sent gs) sends q.each_once ∙ length-map sent gs in
+    sym (length-map sent hs) ∙ sym (length_permutation (map sent hs) sends p.each_once) ∙ length_permutation (map sent gs) sends q.each_once ∙ length-map sent gs in
     same-entries 1 sends hs gs (shows_text (last_state c hs).contents shows) (shows_text (last_state c gs).contents shows) (sends-in-order plan) len
     (each-among (map sent hs) sends hs p.each_once (All-contains_itself (map sent hs))) (each-among (map sent gs) sends gs q.each_once (All-contains_itself (map sent gs))) a b same
