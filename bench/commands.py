@@ -1,6 +1,11 @@
-"""Time and memory of `step 1 0` on scripts of many small commands and of many shows, over doubled sizes."""
+#!/usr/bin/env python3
+"""Time and memory of `step 1 0` on scripts of many small commands, of long reads and of shows, over doubled
+sizes.
 
-from measure import best_of, build
+    python3 bench/commands.py
+"""
+
+from measure import best_of, build, doubled
 
 WORDS = ["step", "1", "0"]
 
@@ -19,10 +24,9 @@ def commands(count):
 
 
 def reads(count):
-    """Reads of 8,192 bytes, whose replies are kept to the end."""
-    lines = ["nvmecp 1 block=512 depth=256 budget=1000", "mem 1 bytes=8192", "phase", "host 1"]
-    for _ in range(count):
-        lines += ["send 1 memread ns=1 at=0 len=8192", "take 1"]
+    """Reads of 8,192 bytes, whose replies are kept until all commands are carried out."""
+    lines = ["nvmecp 1 block=512 depth=16 budget=1000", "mem 1 bytes=8192", "phase", "host 1"]
+    lines += ["send 1 memread ns=1 at=0 len=8192", "take 1"] * count
     return ("\n".join(lines) + "\n").encode()
 
 
@@ -33,24 +37,22 @@ def shows(count):
     return ("\n".join(lines) + "\n").encode()
 
 
-def table(title, unit, script, sizes, empty):
-    """A line a size: the time, the time for each unit, the ratio to the size before, and the memory."""
-    print(f"{title}: {'count':>8} {'ms':>9} {'us/' + unit:>12} {'ratio':>6} {'peak MiB':>9}")
-    before = None
-    for size in sizes:
-        run = best_of(5, WORDS, script(size), 0)
-        seconds = max(run.seconds - empty.seconds, 1e-9)
-        ratio = f"{seconds / before:.2f}" if before else "-"
-        print(f"{'':{len(title)}}  {size:>8} {seconds * 1e3:>9.2f} {seconds / size * 1e6:>12.3f} {ratio:>6} {run.peak_kib / 1024:>9.1f}")
-        before = seconds
+FORMS = [
+    ("small commands", commands, [4_096, 8_192, 16_384]),
+    ("reads of 8,192 bytes", reads, [4_096, 8_192, 16_384]),
+    ("shows of 8,192 bytes", shows, [256, 512, 1_024]),
+]
 
 
 def main():
-    empty = build()
-    print(f"a header alone: {empty.seconds * 1e3:.2f} ms, {empty.peak_kib / 1024:.1f} MiB; taken off below")
-    table("commands", "command", commands, [4_096, 8_192, 16_384], empty)
-    table("reads of 8,192 bytes", "command", reads, [2_048, 4_096, 8_192, 16_384], empty)
-    table("shows of 8,192 bytes", "show", shows, [256, 512, 1_024], empty)
+    build()
+    empty = best_of(15, WORDS, b"nvmecp 1 block=512 depth=16 budget=1000\n", 0, b"")
+    print(f"a header alone: {empty.seconds * 1e3:.2f} ms, taken off below; {empty.peak_kib / 1024:.1f} MiB")
+    for name, script, sizes in FORMS:
+        rows = [(size, best_of(5, WORDS, script(size), 0)) for size in sizes]
+        print(f"{name:20} {'count':>7} {'ms':>9} {'us each':>8} {'ratio':>6} {'peak MiB':>9}")
+        for size, run, seconds, ratio in doubled(rows, empty):
+            print(f"{'':20} {size:7} {seconds * 1e3:9.2f} {seconds / size * 1e6:8.3f} {ratio:>6} {run.peak_kib / 1024:9.1f}")
 
 
 if __name__ == "__main__":

@@ -8,7 +8,9 @@ import time
 from pathlib import Path
 
 TOP = Path(__file__).resolve().parent.parent
-PROGRAM = TOP / "nvmecp"
+# The first builds the program where it is not built; the second is the program itself, which is timed.
+STARTER = TOP / "nvmecp"
+PROGRAM = TOP / "crates" / "nvmecp" / "out" / "nvmecp"
 
 
 class Run:
@@ -21,8 +23,15 @@ class Run:
         self.text = text
 
 
+def build():
+    """Builds the program where it is not built."""
+    done = subprocess.run([STARTER, "help"], stdin=subprocess.DEVNULL, capture_output=True, check=False)
+    if done.returncode != 1:
+        sys.exit(done.stderr.decode())
+
+
 def run_once(words, data):
-    """One run on these bytes. The input lies in a file, so that no pipe is measured."""
+    """One run on these bytes. Input and output lie in files, so that no pipe is measured."""
     with tempfile.TemporaryFile() as source, tempfile.TemporaryFile() as sink:
         source.write(data)
         source.seek(0)
@@ -35,17 +44,21 @@ def run_once(words, data):
         return Run(seconds, usage.ru_maxrss, child.returncode, sink.read())
 
 
-def best_of(times, words, data, status):
-    """The fastest of some runs, each of which has to end with this status."""
+def best_of(times, words, data, status, text=None):
+    """The fastest of some runs, each of which has to end with this status and, where one is given, with
+    this text."""
     runs = [run_once(words, data) for _ in range(times)]
     for run in runs:
-        if run.status != status:
-            sys.exit(f"status {run.status} in place of {status} for {' '.join(words)}")
+        if run.status != status or text not in (None, run.text):
+            sys.exit(f"{' '.join(words)}: status {run.status}, {run.text[:80]!r}")
     return min(runs, key=lambda run: run.seconds)
 
 
-def build():
-    """Builds the program where it is not built, and gives what an empty run takes."""
-    header = b"nvmecp 1 block=512 depth=16 budget=1000\n"
-    run_once(["step", "1", "0"], header)
-    return best_of(5, ["step", "1", "0"], header, 0)
+def doubled(rows, empty):
+    """For rows of a size and its fastest run: the size, the run, the seconds without those of an empty run,
+    and the ratio to the row before."""
+    before = None
+    for size, run in rows:
+        seconds = max(run.seconds - empty.seconds, 1e-9)
+        yield size, run, seconds, f"{seconds / before:.2f}" if before else ""
+        before = seconds
