@@ -1,4 +1,4 @@
-//! One instruction.
+//! One instruction: the `match` that finds what it does.
 ghost use Rattle.std.specs.Prelude.{◌≡◌, length, map};
 ghost use Rattle.bpf_model.specs.Encoding.{IsAllowed};
 ghost use Rattle.bpf_model.specs.Step.{effect};
@@ -31,22 +31,67 @@ pub(crate) fn execute(insn: &Insn, p: &mut Processor, view: &mut View) -> Next
         Insn::Swap { bits, dst } => p.swap(SwapOp::Swap, bits, dst),
         Insn::Jump { offset } => p.jump(i32::from(offset)),
         Insn::JumpLong { imm } => p.jump(imm),
-        Insn::BranchImm { op, wide, dst, offset, imm } => p.branch(op, wide, dst, operand(imm), offset),
-        Insn::BranchReg { op, wide, dst, src, offset } => p.branch(op, wide, dst, p.get(src), offset),
+        Insn::BranchImm {
+            op,
+            wide,
+            dst,
+            offset,
+            imm,
+        } => p.branch(op, wide, dst, operand(imm), offset),
+        Insn::BranchReg {
+            op,
+            wide,
+            dst,
+            src,
+            offset,
+        } => p.branch(op, wide, dst, p.get(src), offset),
         Insn::CallHelper => p.call_helper(view),
         Insn::CallLocal { imm } => p.call(imm),
         Insn::Exit => p.exit(),
         Insn::LoadImm { dst, value } => p.put(dst, value),
-        Insn::Load { size, dst, src, offset } => p.load(view, size, dst, p.address(src, offset)),
-        Insn::LoadSigned { size, dst, src, offset } => p.load_signed(view, size, dst, p.address(src, offset)),
-        Insn::StoreImm { size, dst, offset, imm } => p.store(view, size, p.address(dst, offset), operand(imm)),
-        Insn::StoreReg { size, dst, src, offset } => p.store(view, size, p.address(dst, offset), p.get(src)),
-        Insn::Atomic { op, size, dst, src, offset } => p.atomic(view, op, size, p.address(dst, offset), src),
-        Insn::AtomicFetch { op, size, dst, src, offset } => {
-            p.fetch(view, op, size, p.address(dst, offset), src)
-        }
-        Insn::CompareExchange { size, dst, src, offset } => {
-            p.exchange(view, size, p.address(dst, offset), src)
-        }
+        Insn::Load {
+            size,
+            dst,
+            src,
+            offset,
+        } => p.load(view, size, dst, p.address(src, offset)),
+        Insn::LoadSigned {
+            size,
+            dst,
+            src,
+            offset,
+        } => p.load_signed(view, size, dst, p.address(src, offset)),
+        Insn::StoreImm {
+            size,
+            dst,
+            offset,
+            imm,
+        } => p.store(view, size, p.address(dst, offset), operand(imm)),
+        Insn::StoreReg {
+            size,
+            dst,
+            src,
+            offset,
+        } => p.store(view, size, p.address(dst, offset), p.get(src)),
+        Insn::Atomic {
+            op,
+            size,
+            dst,
+            src,
+            offset,
+        } => p.atomic(view, op, size, p.address(dst, offset), src),
+        Insn::AtomicFetch {
+            op,
+            size,
+            dst,
+            src,
+            offset,
+        } => { p.fetch(view, op, size, p.address(dst, offset), src) }
+        Insn::CompareExchange {
+            size,
+            dst,
+            src,
+            offset,
+        } => { p.exchange(view, size, p.address(dst, offset), src) }
     }
 }

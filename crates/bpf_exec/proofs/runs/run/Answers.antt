@@ -1,10 +1,9 @@
-use Rattle.std.proofs.Common.{◌≡◌, ℕ, pos, sym, ap, ◌∙◌, Some, Option}
-use Rattle.bpf_isa.specs.declared.insn.Insn.{Insn}
-use Rattle.bpf_model.specs.Machine.{Machine, entry_machine}
+use Rattle.std.proofs.Common.{◌≡◌, ℕ, pos, sym, ap, ◌∙◌}
+use Rattle.bpf_model.specs.Machine.{Machine}
 use Rattle.bpf_model.specs.Outcome.{Outcome, outcome, outcome_from}
 use Rattle.bpf_decode.specs.Slots.{insn_at}
-use Rattle.bpf_exec.specs.Seen.{machine_of, memory_of, ranges_of}
-use Rattle.bpf_exec.specs.Setting.{Describes, program_of}
+use Rattle.bpf_exec.specs.Seen.{memory_of, ranges_of}
+use Rattle.bpf_exec.specs.Setting.{program_of}
 use Rattle.bpf_exec.proofs.Entry.{count_ranges, described-ending, described-windows}
 use Rattle.bpf_exec.proofs.runs.run.Goals as goal
 

@@ -1,5 +1,4 @@
-use Rattle.std.proofs.Common.{◌≡◌, ◌-◌, sym, ◌∙◌, arith}
-use Rattle.bpf_model.specs.Outcome.{outcome_from}
+use Rattle.std.proofs.Common.{sym, ◌∙◌, arith}
 use Rattle.bpf_exec.specs.Seen.{machine_of}
 use Rattle.bpf_exec.specs.Setting.{program_of}
 use Rattle.bpf_exec.proofs.Steps.{run_goes}
