@@ -20,24 +20,24 @@ use confined_view::View;
 #[inline(always)]
 fn advance<'c>(
     code: &'c Decoded,
-    p: &mut Processor,
+    processor: &mut Processor,
     insn: &Insn,
     view: &mut View,
 ) -> Result<&'c Insn, End>
-    requires current { insn_at code.now (pos p.old.place) ≡ Some insn.now }
+    requires current { insn_at code.now (pos processor.old.place) ≡ Some insn.now }
     requires allowed { IsAllowed insn.now }
-    ensures goes_on { OnOk result (step (program_of code.now) (machine_of p.old view.old) ≡ Continues (machine_of p.new view.new)) }
-    ensures ends { IfErr result (λ end. step (program_of code.now) (machine_of p.old view.old) ≡ Stops end (memory_of view.new.windows)) }
-    ensures next { IfOk result (λ next. insn_at code.now (pos p.new.place) ≡ Some next.now) }
+    ensures goes_on { OnOk result (step (program_of code.now) (machine_of processor.old view.old) ≡ Continues (machine_of processor.new view.new)) }
+    ensures ends { IfErr result (λ end. step (program_of code.now) (machine_of processor.old view.old) ≡ Stops end (memory_of view.new.windows)) }
+    ensures next { IfOk result (λ next. insn_at code.now (pos processor.new.place) ≡ Some next.now) }
     ensures next_allowed { IfOk result (λ next. IsAllowed next.now) }
     ensures lengths { map length view.new.windows ≡ map length view.old.windows }
 {
-    let place = p.place;
-    match execute(insn, p, view) {
+    let place = processor.place;
+    match execute(insn, processor, view) {
         Next::Ended(end) => Err(end),
         Next::At(target) => match code.at(target) {
             Some(next) => {
-                p.place = target as u32;
+                processor.place = target as u32;
                 Ok(next)
             }
             None => Err(End::BadJump(place)),
@@ -46,16 +46,22 @@ fn advance<'c>(
 }
 
 /// Executes instructions from the program counter on, at most as many as the budget allows.
-fn run_from(code: &Decoded, p: &mut Processor, first: &Insn, view: &mut View, budget: u64) -> End
-    requires current { insn_at code.now (pos p.old.place) ≡ Some first.now }
+fn run_from(
+    code: &Decoded,
+    processor: &mut Processor,
+    first: &Insn,
+    view: &mut View,
+    budget: u64,
+) -> End
+    requires current { insn_at code.now (pos processor.old.place) ≡ Some first.now }
     requires allowed { IsAllowed first.now }
-    ensures outcome { outcome_from (program_of code.now) budget (machine_of p.old view.old) ≡ record { ending = result; memory = memory_of view.new.windows } }
+    ensures outcome { outcome_from (program_of code.now) budget (machine_of processor.old view.old) ≡ record { ending = result; memory = memory_of view.new.windows } }
     ensures lengths { map length view.new.windows ≡ map length view.old.windows }
 {
     let mut insn = first;
     let mut left = budget;
     while left > 0 {
-        match advance(code, p, insn, view) {
+        match advance(code, processor, insn, view) {
             Ok(next) => insn = next,
             Err(end) => return end,
         }
@@ -85,6 +91,6 @@ pub fn run(code: &Decoded, view: &mut View, p1: u64, p2: u64, budget: u64) -> En
     let Some(first) = code.at(0) else {
         return End::BadJump(0);
     };
-    let mut p = Processor::entry(p1, p2, view.ranges());
-    run_from(code, &mut p, first, view, budget)
+    let mut processor = Processor::entry(p1, p2, view.ranges());
+    run_from(code, &mut processor, first, view, budget)
 }
