@@ -1,4 +1,5 @@
-//! The interpreter of BPF programs.
+//! The interpreter of BPF programs (RFC 9669): it executes decoded code on the windows of a view, within a
+//! budget of instructions, and takes no memory.
 #![tactic(auto)]
 
 mod access;
