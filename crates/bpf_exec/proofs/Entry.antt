@@ -1,16 +1,14 @@
 -- Windows as ranges and a memory: they are apart, and their bytes are the windows.
-use Rattle.std.proofs.Common.{◌≡◌, ◌≢◌, ℕ, zero, suc, ◌<◌, ◌≤◌, ◌+◌, pos, List, [], ◌∷◌, length, get_or, take, map, Option, refl, sym, ap, subst, ◌∙◌, arith}
+use Rattle.std.proofs.Common.{◌≡◌, ℕ, zero, suc, ◌<◌, List, [], ◌∷◌, length, get_or, map, Option, refl, sym, ap, ◌∙◌, arith}
 use mathlib.Core.Path.{fun_ext}
 use Rattle.std.proofs.Math.Seq.{take-length}
 use Rattle.std.proofs.lemmas.List.{ext_get_or, get_or-map, length-map}
 use Rattle.cp_base.specs.declared.lists.MemRange.{MemRange}
-use Rattle.bpf_isa.specs.declared.end.End.{End}
 use Rattle.bpf_isa.specs.declared.insn.Insn.{Insn}
 use Rattle.bpf_model.specs.Memory.{Memory, bytes_from, windows_of, AreApart}
 use Rattle.bpf_model.specs.Outcome.{Outcome, outcome}
 use Rattle.bpf_model.specs.Step.{Program}
 use Rattle.bpf_model.proofs.Windows.{windows-ending, windows-memory}
-use Rattle.bpf_decode.specs.Slots.{insn_at}
 use Rattle.bpf_exec.specs.Seen.{ranges_from, ranges_of, memory_of}
 use Rattle.bpf_exec.specs.Setting.{Describes, program_of}
 use Rattle.bpf_exec.proofs.Windows.{range_from, piece_from}
@@ -43,8 +41,10 @@ windows_seen ws vs lengths = ext_get_or [] (windows_of (memory_of vs) (ranges_of
   where
     all : length (windows_of (memory_of vs) (ranges_of ws)) ≡ length (ranges_of ws)
     all = length-map (ranges_of ws) (λ (r : MemRange). bytes_from (memory_of vs) r.ns r.at r.len)
+
     count : length vs ≡ length ws
     count = sym (length-map vs (length {A = ℕ})) ∙ (ap (λ (ls : List ℕ). length ls) lengths ∙ length-map ws (length {A = ℕ}))
+
     each : (i : ℕ) → i < length (windows_of (memory_of vs) (ranges_of ws)) → get_or (windows_of (memory_of vs) (ranges_of ws)) i [] ≡ get_or vs i []
     each i less =
         let inside : i < length (ranges_of ws) = omega (arith, all) in

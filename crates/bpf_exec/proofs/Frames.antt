@@ -1,13 +1,13 @@
 -- Saved frames: a call saves one, and its return takes it back.
-use Rattle.std.proofs.Common.{◌≡◌, ℕ, ◌<◌, ◌≤◌, ◌+◌, ◌-◌, ℤ, pos, ◌+ℤ◌, Bool, true, List, [], ◌∷◌, length, take, drop, set, refl, sym, ap, ◌∙◌, arith, length-drop}
+use Rattle.std.proofs.Common.{◌≡◌, ℕ, ◌<◌, ◌≤◌, ◌+◌, ◌-◌, ℤ, pos, ◌+ℤ◌, Bool, true, List, ◌∷◌, length, take, drop, set, sym, ap, ◌∙◌, arith, length-drop}
 use Rattle.std.proofs.lemmas.Bool.{lt-ltb}
 use Rattle.std.proofs.lemmas.List.{drop-set}
 use Rattle.std.proofs.Math.Seq.{take-length}
 use Rattle.std.specs.Prelude.{nat_lt, if◌then◌else◌}
 use Rattle.bpf_isa.specs.declared.end.End.TheVariants.{CallDepth}
 use Rattle.bpf_model.specs.declared.frames.SavedFrame.{SavedFrame}
-use Rattle.bpf_model.specs.Machine.{Machine, frame_pointer, with_register}
-use Rattle.bpf_model.specs.Step.{Effect, Goes, Ends, call, jump}
+use Rattle.bpf_model.specs.Machine.{Machine, frame_pointer}
+use Rattle.bpf_model.specs.Step.{Effect, Goes, Ends, call}
 
 -- R6 to R10 are all registers from R6 on
 pub from_r6 : (registers : List ℕ) → length registers ≡ 11 → take 5 (drop 6 registers) ≡ drop 6 registers

@@ -1,5 +1,5 @@
 -- Steps of the definition, by what the code has found.
-use Rattle.std.proofs.Common.{◌≡◌, ℕ, zero, suc, ◌<◌, ◌-◌, ℤ, pos, negsuc, List, Option, Some, None, refl, sym, ap, subst, ◌∙◌, arith}
+use Rattle.std.proofs.Common.{◌≡◌, ℕ, zero, suc, ◌<◌, ◌-◌, ℤ, pos, negsuc, List, Option, Some, None, refl, sym, ap, ◌∙◌, arith}
 use Rattle.std.specs.Prelude.{option_map}
 use Rattle.std.specs.Option.{option_map_or}
 use Rattle.bpf_isa.specs.declared.end.End.{End}
@@ -7,7 +7,7 @@ use Rattle.bpf_isa.specs.declared.end.End.TheVariants.{BadJump, BudgetSpent}
 use Rattle.bpf_isa.specs.declared.insn.Insn.{Insn}
 use Rattle.bpf_model.specs.Machine.{Machine}
 use Rattle.bpf_model.specs.Memory.{Memory}
-use Rattle.bpf_model.specs.Outcome.{Outcome, outcome_from, outcome_after}
+use Rattle.bpf_model.specs.Outcome.{outcome_from, outcome_after}
 use Rattle.bpf_model.specs.Step.{Program, Effect, Goes, Ends, Step, Continues, Stops, effect, settled, start_at, step}
 use Rattle.bpf_decode.specs.Slots.{insn_at}
 use Rattle.bpf_exec.specs.Setting.{program_of}

@@ -1,10 +1,10 @@
 -- Windows as the memory and the ranges of a machine: an access does the same to both.
-use Rattle.std.proofs.Common.{◌≡◌, ◌≢◌, ℕ, zero, suc, ◌<◌, ◌≤◌, ◌+◌, ◌-◌, ◌^◌, ℤ, pos, List, [], ◌∷◌, ◌++◌, length, get_or, take, drop, set, map, Option, Some, None, refl, sym, ap, subst, ◌∙◌, arith, inl, inr, length-take, length-drop, length-append, drop-cons, unwrap_or}
+use Rattle.std.proofs.Common.{◌≡◌, ℕ, zero, suc, ◌<◌, ◌≤◌, ◌+◌, ◌-◌, ◌^◌, ℤ, pos, List, [], ◌∷◌, ◌++◌, length, get_or, take, drop, set, map, Option, Some, None, refl, sym, ap, ◌∙◌, arith, inl, inr, length-take, length-drop, length-append, drop-cons, unwrap_or}
 use mathlib.Core.Path.{fun_ext}
 use Rattle.std.proofs.lemmas.Bool.{cases_lt, cases_eq}
 use Rattle.std.proofs.lemmas.Option.{unwrap_or-slice_get, slice_get-map}
 use Rattle.std.proofs.lemmas.List.{get_or-append_right, get_or_append_left, get_or-set_same, get_or-set_other, get_or-take, get_or-drop}
-use Rattle.std.specs.Prelude.{slice_index, slice_index_or, slice_get, slice_set, option_map, option_and_then}
+use Rattle.std.specs.Prelude.{slice_index, slice_get, option_map, option_and_then}
 use Rattle.byteorder.specs.Endian.{little_number, little_bytes}
 use Rattle.cp_base.specs.Pieces.{piece, patched}
 use Rattle.cp_base.specs.declared.lists.MemRange.{MemRange}
@@ -16,7 +16,7 @@ use Rattle.bpf_model.specs.Address.{resolve}
 use Rattle.bpf_model.specs.declared.addresses.Place.{Place}
 use Rattle.bpf_model.specs.declared.addresses.Place.TheVariants.{InRange, InStack, Nowhere}
 use Rattle.bpf_model.specs.Machine.{Machine, register, with_register}
-use Rattle.bpf_model.specs.Memory.{Memory, bytes_from, with_bytes, range_at, lengths_of}
+use Rattle.bpf_model.specs.Memory.{Memory, bytes_from, with_bytes, lengths_of}
 use Rattle.bpf_model.specs.Step as step
 use Rattle.bpf_model.specs.Step.{Effect, Goes, Ends, accessed, next}
 use Rattle.bpf_model.specs.Value.{stored_by}

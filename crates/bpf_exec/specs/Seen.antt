@@ -1,5 +1,5 @@
 -- The machine that the values of the code stand for. This project's own.
-use Rattle.std.specs.Prelude.{◌≡◌, ℕ, suc, List, [], ◌∷◌, length, drop, slice_index, slice_index_or, Option}
+use Rattle.std.specs.Prelude.{◌≡◌, ℕ, suc, List, [], ◌∷◌, length, drop, slice_index, slice_index_or}
 use Rattle.cp_base.specs.declared.lists.MemRange.{MemRange}
 use Rattle.bpf_model.specs.Machine.{Machine}
 use Rattle.bpf_model.specs.Memory.{Memory}

@@ -69,7 +69,14 @@ impl Processor {
     /// An atomic operation on memory, which answers the old value, or `None` where the access lies wholly
     /// neither in a range nor in the stack.
     #[inline(always)]
-    fn update(&self, view: &mut View, op: AtomicOp, size: Size, address: u64, source: u64) -> Option<u64>
+    fn update(
+        &self,
+        view: &mut View,
+        op: AtomicOp,
+        size: Size,
+        address: u64,
+        source: u64,
+    ) -> Option<u64>
         requires { IsTrue (is_atomic_size size) }
         ensures effect { (fetch : ℕ → Machine → Machine) → let m = machine_of self.now view.new in
             atomic_access (machine_of self.now view.old) op address size source fetch ≡ accessed m (option_map (λ old. next (fetch old m)) result) }
@@ -100,7 +107,14 @@ impl Processor {
 
     /// An atomic operation that puts the old value into its source.
     #[inline(always)]
-    pub fn fetch(&mut self, view: &mut View, op: AtomicOp, size: Size, address: u64, src: Reg) -> Next
+    pub fn fetch(
+        &mut self,
+        view: &mut View,
+        op: AtomicOp,
+        size: Size,
+        address: u64,
+        src: Reg,
+    ) -> Next
         requires { IsTrue (is_atomic_size size) }
         ensures effect { atomic_access (machine_of self.old view.old) op address size (slice_index self.old.registers src) (λ old m. with_register m src old)
             ≡ effect_of result self.new view.new }

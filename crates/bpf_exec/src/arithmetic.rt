@@ -15,7 +15,11 @@ use bpf_isa::{AluOp, Insn, Reg, SwapOp, Width};
 fn computed(op: AluOp, wide: bool, a: u64, b: u64) -> u64
     ensures { result ≡ value_of op (width_of wide) a b }
 {
-    if wide { alu64(op, a, b) } else { alu32(op, a, b) }
+    if wide {
+        alu64(op, a, b)
+    } else {
+        alu32(op, a, b)
+    }
 }
 
 impl Processor {

@@ -14,7 +14,11 @@ use bpf_isa::{JumpOp, Reg};
 fn holds(op: JumpOp, wide: bool, a: u64, b: u64) -> bool
     ensures { result ≡ compares op (width_of wide) a b }
 {
-    if wide { holds64(op, a, b) } else { holds32(op, a, b) }
+    if wide {
+        holds64(op, a, b)
+    } else {
+        holds32(op, a, b)
+    }
 }
 
 impl Processor {

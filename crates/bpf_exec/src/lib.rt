@@ -1,4 +1,5 @@
-//! The interpreter of BPF programs.
+//! The interpreter of BPF programs (RFC 9669): it executes decoded code on the windows of a view, within a
+//! budget of instructions, and takes no memory.
 #![tactic(auto)]
 
 mod access;
@@ -11,3 +12,6 @@ mod runs;
 
 pub use bpf_isa::End;
 pub use runs::run;
+
+#[cfg(test)]
+mod tests;

@@ -1,4 +1,4 @@
-//! A run.
+//! Runs: a step, the loop over steps, and a run from the start.
 ghost use Rattle.std.specs.Prelude.{◌≡◌, ◌≤◌, ℕ, List, pos, Some, replicate, map, length, IfOk, IfErr, OnOk};
 ghost use Rattle.cp_base.specs.declared.lists.MemRange.{MemRange};
 ghost use Rattle.bpf_model.specs.Address.{stack_len};
@@ -18,22 +18,27 @@ use confined_view::View;
 
 /// Executes the instruction at the program counter, and answers the one at the next place or the end.
 #[inline(always)]
-fn advance(code: &Decoded, p: &mut Processor, insn: &Insn, view: &mut View) -> Result<Insn, End>
-    requires current { insn_at code.now (pos p.old.place) ≡ Some insn.now }
+fn advance<'c>(
+    code: &'c Decoded,
+    processor: &mut Processor,
+    insn: &Insn,
+    view: &mut View,
+) -> Result<&'c Insn, End>
+    requires current { insn_at code.now (pos processor.old.place) ≡ Some insn.now }
     requires allowed { IsAllowed insn.now }
-    ensures goes_on { OnOk result (step (program_of code.now) (machine_of p.old view.old) ≡ Continues (machine_of p.new view.new)) }
-    ensures ends { IfErr result (λ end. step (program_of code.now) (machine_of p.old view.old) ≡ Stops end (memory_of view.new.windows)) }
-    ensures next { IfOk result (λ next. insn_at code.now (pos p.new.place) ≡ Some next) }
-    ensures next_allowed { IfOk result (λ next. IsAllowed next) }
+    ensures goes_on { OnOk result (step (program_of code.now) (machine_of processor.old view.old) ≡ Continues (machine_of processor.new view.new)) }
+    ensures ends { IfErr result (λ end. step (program_of code.now) (machine_of processor.old view.old) ≡ Stops end (memory_of view.new.windows)) }
+    ensures next { IfOk result (λ next. insn_at code.now (pos processor.new.place) ≡ Some next.now) }
+    ensures next_allowed { IfOk result (λ next. IsAllowed next.now) }
     ensures lengths { map length view.new.windows ≡ map length view.old.windows }
 {
-    let place = p.place;
-    match execute(insn, p, view) {
+    let place = processor.place;
+    match execute(insn, processor, view) {
         Next::Ended(end) => Err(end),
         Next::At(target) => match code.at(target) {
             Some(next) => {
-                p.place = target as u32;
-                Ok(*next)
+                processor.place = target as u32;
+                Ok(next)
             }
             None => Err(End::BadJump(place)),
         },
@@ -41,16 +46,22 @@ fn advance(code: &Decoded, p: &mut Processor, insn: &Insn, view: &mut View) -> R
 }
 
 /// Executes instructions from the program counter on, at most as many as the budget allows.
-fn run_from(code: &Decoded, p: &mut Processor, first: Insn, view: &mut View, budget: u64) -> End
-    requires current { insn_at code.now (pos p.old.place) ≡ Some first }
-    requires allowed { IsAllowed first }
-    ensures outcome { outcome_from (program_of code.now) budget (machine_of p.old view.old) ≡ record { ending = result; memory = memory_of view.new.windows } }
+fn run_from(
+    code: &Decoded,
+    processor: &mut Processor,
+    first: &Insn,
+    view: &mut View,
+    budget: u64,
+) -> End
+    requires current { insn_at code.now (pos processor.old.place) ≡ Some first.now }
+    requires allowed { IsAllowed first.now }
+    ensures outcome { outcome_from (program_of code.now) budget (machine_of processor.old view.old) ≡ record { ending = result; memory = memory_of view.new.windows } }
     ensures lengths { map length view.new.windows ≡ map length view.old.windows }
 {
     let mut insn = first;
     let mut left = budget;
     while left > 0 {
-        match advance(code, p, &insn, view) {
+        match advance(code, processor, insn, view) {
             Ok(next) => insn = next,
             Err(end) => return end,
         }
@@ -59,7 +70,16 @@ fn run_from(code: &Decoded, p: &mut Processor, first: Insn, view: &mut View, bud
     End::BudgetSpent
 }
 
-/// Executes a program, from place 0 on, with two parameters and a budget of instructions.
+/// Executes a program from place 0 on, with the parameters `p1` in R1 and `p2` in R2 and the number of the
+/// view's ranges in R3 (RFC 9669, sections 4 and 5; the layout of memory, the frames, the helper and the
+/// faults are this project's own).
+///
+/// `budget` is the most instructions that are executed: each one counts, the last one too, also where it
+/// is a fault. The stack is all zero at first.
+///
+/// The end is that of the outcome: `Exit` with R0, a fault with the place of its instruction in units of
+/// 8 bytes, or `BudgetSpent`. However it ends, the windows hold what the program has stored until then.
+/// What is left on the stack is not told.
 pub fn run(code: &Decoded, view: &mut View, p1: u64, p2: u64, budget: u64) -> End
     requires budget { 1 ≤ budget }
     requires stack { view.old.stack ≡ replicate stack_len 0 }
@@ -71,6 +91,6 @@ pub fn run(code: &Decoded, view: &mut View, p1: u64, p2: u64, budget: u64) -> En
     let Some(first) = code.at(0) else {
         return End::BadJump(0);
     };
-    let mut p = Processor::entry(p1, p2, view.ranges());
-    run_from(code, &mut p, *first, view, budget)
+    let mut processor = Processor::entry(p1, p2, view.ranges());
+    run_from(code, &mut processor, first, view, budget)
 }

@@ -1,23 +1,22 @@
-use Rattle.std.proofs.Common.{◌≡◌, ℕ, pos, sym, ap, ◌∙◌, Some, Option}
-use Rattle.bpf_isa.specs.declared.insn.Insn.{Insn}
-use Rattle.bpf_model.specs.Machine.{Machine, entry_machine}
+use Rattle.std.proofs.Common.{◌≡◌, ℕ, pos, sym, ap, ◌∙◌}
+use Rattle.bpf_model.specs.Machine.{Machine}
 use Rattle.bpf_model.specs.Outcome.{Outcome, outcome, outcome_from}
 use Rattle.bpf_decode.specs.Slots.{insn_at}
-use Rattle.bpf_exec.specs.Seen.{machine_of, memory_of, ranges_of}
-use Rattle.bpf_exec.specs.Setting.{Describes, program_of}
+use Rattle.bpf_exec.specs.Seen.{memory_of, ranges_of}
+use Rattle.bpf_exec.specs.Setting.{program_of}
 use Rattle.bpf_exec.proofs.Entry.{count_ranges, described-ending, described-windows}
 use Rattle.bpf_exec.proofs.runs.run.Goals as goal
 
 pub run_from-requires-clause-current : goal.run_from-requires-clause-current
 run_from-requires-clause-current c =
-    ap (λ (n : ℕ). insn_at c.args.code.now (pos n)) c.entry-p.ensures.place ∙ sym c.in-Some.ensures.instruction
+    ap (λ (n : ℕ). insn_at c.args.code.now (pos n)) c.entry-processor.ensures.place ∙ sym c.in-Some.ensures.instruction
 
 -- the run from the entry, on windows
 entered : (c : goal.After-run_from) → outcome (program_of c.args.code.now) (ranges_of c.args.view.now.windows) (memory_of c.args.view.now.windows) c.args.p1 c.args.p2 c.args.budget
     ≡ record { ending = c.run_from.result; memory = memory_of c.run_from.new.view.windows }
 entered c =
     ap (λ (m : Machine). outcome_from (program_of c.args.code.now) c.args.budget m)
-    (sym (c.entry-p.ensures.machine c.args.view.now c.requires.stack (count_ranges c.args.view.now.windows ∙ sym c.ranges-2.ensures)))
+    (sym (c.entry-processor.ensures.machine c.args.view.now c.requires.stack (count_ranges c.args.view.now.windows ∙ sym c.ranges-2.ensures)))
     ∙ c.run_from.ensures.outcome
 
 pub returns-clause-ending : goal.returns-clause-ending

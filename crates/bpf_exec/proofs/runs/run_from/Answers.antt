@@ -1,5 +1,4 @@
-use Rattle.std.proofs.Common.{◌≡◌, ◌-◌, sym, ◌∙◌, arith}
-use Rattle.bpf_model.specs.Outcome.{outcome_from}
+use Rattle.std.proofs.Common.{sym, ◌∙◌, arith}
 use Rattle.bpf_exec.specs.Seen.{machine_of}
 use Rattle.bpf_exec.specs.Setting.{program_of}
 use Rattle.bpf_exec.proofs.Steps.{run_goes}
@@ -8,7 +7,7 @@ use Rattle.bpf_exec.proofs.runs.run_from.Goals as goal
 pub loop-left-preserved : goal.loop-left-preserved
 loop-left-preserved c = record {
   same =
-      sym (run_goes (program_of c.args.code.now) (machine_of c.loop-left.p c.loop-left.view) c.loop-left.left (machine_of c.advance.new.p c.advance.new.view)
+      sym (run_goes (program_of c.args.code.now) (machine_of c.loop-left.processor c.loop-left.view) c.loop-left.left (machine_of c.advance.new.processor c.advance.new.view)
       (omega arith) c.in-Ok.ensures.goes_on) ∙ c.loop-left.invariant.same;
   current = c.in-Ok.ensures.next;
   allowed = c.in-Ok.ensures.next_allowed;

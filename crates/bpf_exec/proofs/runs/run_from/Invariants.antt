@@ -8,8 +8,8 @@ use Rattle.bpf_exec.proofs.runs.run_from.Given as goal
 
 abbrev pub invariant-loop-left : goal.invariant-loop-left
 invariant-loop-left l = record {
-  same : outcome_from (program_of l.code) l.left (machine_of l.p l.view) ≡ outcome_from (program_of l.code) l.budget (machine_of l.fn.p l.fn.view);
-  current : insn_at l.code (pos l.p.place) ≡ Some l.insn;
+  same : outcome_from (program_of l.code) l.left (machine_of l.processor l.view) ≡ outcome_from (program_of l.code) l.budget (machine_of l.fn.processor l.fn.view);
+  current : insn_at l.code (pos l.processor.place) ≡ Some l.insn;
   allowed : IsAllowed l.insn;
   lengths : map (length {A = ℕ}) l.view.windows ≡ map (length {A = ℕ}) l.fn.view.windows;
 }

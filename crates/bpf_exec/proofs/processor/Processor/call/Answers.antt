@@ -1,4 +1,4 @@
-use Rattle.std.proofs.Common.{◌≡◌, refl, ℤ, pos, ◌+ℤ◌, ◌+◌, ◌∙◌, arith, to_z, of_z, w64, drop}
+use Rattle.std.proofs.Common.{◌≡◌, refl, pos, ◌+ℤ◌, ◌+◌, ◌∙◌, arith, to_z, of_z, w64}
 use Rattle.std.proofs.lemmas.Int.{ints}
 use Rattle.bpf_exec.proofs.Frames.{call_saves, from_r6}
 use Rattle.bpf_exec.specs.Seen.{machine_of}
