@@ -1,5 +1,6 @@
 //! The workloads.
-ghost use Rattle.std.specs.Prelude.{◌≤◌};
+ghost use Rattle.std.specs.Prelude.{◌≡◌, ◌-◌, ◌^◌, ◌≤◌, min};
+ghost use Rattle.bpf_bench.specs.Counts.{instructions_in_all};
 
 /// What is executed. Each program does the same in every round, and there is at least one.
 #[derive(Clone, Copy, Debug, PartialEq, Eq)]
@@ -29,8 +30,10 @@ impl Workload {
         }
     }
 
-    /// How many instructions its program executes for so many rounds, of which there are 1 or more.
+    /// How many instructions its program executes for so many rounds, of which there are 1 or more; at most
+    /// `u64::MAX`.
     pub fn instructions(self, rounds: u64) -> u64
+        ensures value { result ≡ min (instructions_in_all self rounds) (2 ^ 64 - 1) }
         ensures some { 1 ≤ result }
     {
         let (once, each) = match self {
