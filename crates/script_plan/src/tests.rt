@@ -188,10 +188,7 @@ fn a_host_comes_back(rt: HostRuntime) -> Result<(), Fail> {
         .ok()
         .ok_or("no plan")?;
     assert_eq!(rt; plan.commands, 3);
-    let wanted: [&[Act]; 2] = [
-        &[Send(1), Send(2), Take(1), Take(2)],
-        &[Send(1), Take(1)],
-    ];
+    let wanted: [&[Act]; 2] = [&[Send(1), Send(2), Take(1), Take(2)], &[Send(1), Take(1)]];
     assert_eq!(rt; plan.phases.as_slice().len(), 2);
     for (phase, acts) in plan.phases.as_slice().iter().zip(wanted) {
         assert_eq!(rt; phase.hosts.as_slice().len(), 1);
