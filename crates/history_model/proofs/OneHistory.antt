@@ -1,6 +1,6 @@
 -- Legal histories of one plan with one text are one history.
-use Rattle.std.proofs.Common.{◌≡◌, ℕ, zero, suc, ◌+◌, ◌<◌, ◌≤◌, Bool, true, false, eqb, List, [], ◌∷◌, ◌++◌, length, get_or, map, Option, Some, None, refl, sym, ap, subst, ◌∙◌, arith, inl, inr, ◌⊎◌, append_assoc}
-use Rattle.std.specs.Prelude.{codes, decimal, find, ◌^◌}
+use Rattle.std.proofs.Common.{◌≡◌, ℕ, zero, suc, ◌+◌, ◌<◌, false, eqb, List, [], ◌∷◌, ◌++◌, length, get_or, map, Option, Some, refl, sym, ap, subst, ◌∙◌, arith, inl, inr, ◌⊎◌, append_assoc}
+use Rattle.std.specs.Prelude.{decimal, find, ◌^◌}
 use Rattle.std.specs.List.{All, AllByRecursion, Contains, list_any}
 use Rattle.std.specs.List.Sorted.{IsPermutation}
 use Rattle.std.specs.Str.{bytes_eq}
@@ -25,7 +25,7 @@ use Rattle.history_model.specs.Entry.{Entry}
 use Rattle.history_model.specs.Legal.{IsLegal, last_state}
 use Rattle.history_model.specs.Sent.{Sent, sends_of}
 use Rattle.history_model.specs.Sized.{IsSized}
-use Rattle.history_model.specs.Text.{entries_text, entry_text, history_text, lettered, shows_text, status_text}
+use Rattle.history_model.specs.Text.{entries_text, entry_text, history_text, shows_text, status_text}
 use Rattle.history_model.proofs.Every.{Pairwise}
 use Rattle.history_model.proofs.Order.{Precedes, sends-in-order}
 
@@ -211,8 +211,8 @@ line-tells k e f x y p q same =
     let E : List ℕ = told e.sent.host e.sent.ordinal e.sent.cid (word_of e.sent.command) e.answer.status e.answer.result e.answer.bytes x in
     let F : List ℕ = told f.sent.host f.sent.ordinal f.sent.cid (word_of f.sent.command) f.answer.status f.answer.result f.answer.bytes y in
     let nested : 35 ∷ decimal k ++ E ≡ 35 ∷ decimal k ++ F =
-        sym (spelled (decimal k) (decimal e.sent.host) (decimal e.sent.ordinal) (decimal e.sent.cid) (word_text (word_of e.sent.command)) (status_text e.answer.status) (decimal e.answer.result) (hex_text e.answer.bytes) x)
-        ∙ same ∙ spelled (decimal k) (decimal f.sent.host) (decimal f.sent.ordinal) (decimal f.sent.cid) (word_text (word_of f.sent.command)) (status_text f.answer.status) (decimal f.answer.result) (hex_text f.answer.bytes) y in
+    sym (spelled (decimal k) (decimal e.sent.host) (decimal e.sent.ordinal) (decimal e.sent.cid) (word_text (word_of e.sent.command)) (status_text e.answer.status) (decimal e.answer.result) (hex_text e.answer.bytes) x)
+    ∙ same ∙ spelled (decimal k) (decimal f.sent.host) (decimal f.sent.ordinal) (decimal f.sent.cid) (word_text (word_of f.sent.command)) (status_text f.answer.status) (decimal f.answer.result) (hex_text f.answer.bytes) y in
     let a = append_cancel_left (35 ∷ decimal k) E F nested in
     let b = cut-number e.sent.host f.sent.host _ _ p.host q.host (tail-same _ _ _ _ (tail-same _ _ _ _ a)) in
     let c = cut-number e.sent.ordinal f.sent.ordinal _ _ p.ordinal q.ordinal (tail-same _ _ _ _ b.1) in
@@ -258,6 +258,6 @@ one-history c plan shows hs gs p q a b same =
     let sent : Entry → Sent = λ e. e.sent in
     let sends = sends_of plan in
     let len : length hs ≡ length gs =
-        sym (length-map sent hs) ∙ sym (length_permutation (map sent hs) sends p.each_once) ∙ length_permutation (map sent gs) sends q.each_once ∙ length-map sent gs in
+    sym (length-map sent hs) ∙ sym (length_permutation (map sent hs) sends p.each_once) ∙ length_permutation (map sent gs) sends q.each_once ∙ length-map sent gs in
     same-entries 1 sends hs gs (shows_text (last_state c hs).contents shows) (shows_text (last_state c gs).contents shows) (sends-in-order plan) len
     (each-among (map sent hs) sends hs p.each_once (All-contains_itself (map sent hs))) (each-among (map sent gs) sends gs q.each_once (All-contains_itself (map sent gs))) a b same
