@@ -1,6 +1,6 @@
 -- Legal histories of one plan with one text are one history.
-use Rattle.std.proofs.Common.{◌≡◌, ℕ, zero, suc, ◌+◌, ◌<◌, ◌≤◌, Bool, true, false, eqb, List, [], ◌∷◌, ◌++◌, length, get_or, map, Option, Some, None, refl, sym, ap, subst, ◌∙◌, arith, inl, inr, ◌⊎◌, append_assoc}
-use Rattle.std.specs.Prelude.{codes, decimal, find, ◌^◌}
+use Rattle.std.proofs.Common.{◌≡◌, ℕ, zero, suc, ◌+◌, ◌<◌, false, eqb, List, [], ◌∷◌, ◌++◌, length, get_or, map, Option, Some, refl, sym, ap, subst, ◌∙◌, arith, inl, inr, ◌⊎◌, append_assoc}
+use Rattle.std.specs.Prelude.{decimal, find, ◌^◌}
 use Rattle.std.specs.List.{All, AllByRecursion, Contains, list_any}
 use Rattle.std.specs.List.Sorted.{IsPermutation}
 use Rattle.std.specs.Str.{bytes_eq}
@@ -25,7 +25,7 @@ use Rattle.history_model.specs.Entry.{Entry}
 use Rattle.history_model.specs.Legal.{IsLegal, last_state}
 use Rattle.history_model.specs.Sent.{Sent, sends_of}
 use Rattle.history_model.specs.Sized.{IsSized}
-use Rattle.history_model.specs.Text.{entries_text, entry_text, history_text, lettered, shows_text, status_text}
+use Rattle.history_model.specs.Text.{entries_text, entry_text, history_text, shows_text, status_text}
 use Rattle.history_model.proofs.Every.{Pairwise}
 use Rattle.history_model.proofs.Order.{Precedes, sends-in-order}
 

@@ -1,5 +1,5 @@
 -- What an entry of a history can say. This project's own.
-use Rattle.std.specs.Prelude.{ℕ, ◌^◌, ◌<◌}
+use Rattle.std.specs.Prelude.{◌^◌, ◌<◌}
 use Rattle.cp_text.specs.HexText.{AreBytes}
 use Rattle.history_model.specs.Entry.{Entry}
 
