@@ -22,7 +22,7 @@ loop-place-preserved c =
     let place : ℕ = c.loop-place.place in
     let new : c.push_line_at.new.text.items ≡ c.loop-place.text.items ++ line_at (instruction_at code place) =
     let cast : to_z w64 place ≡ pos place = omega (arith, ints) in
-    let here : option_copied c.at.result ≡ instruction_at code place = c.at.ensures ∙ ap (insn_at c.in_ok-decoded.decoded) cast ∙ c.in_ok-decoded.ensures.instructions place in
+    let here : option_copied c.at.result ≡ instruction_at code place = c.at.ensures.instruction ∙ ap (insn_at c.in_ok-decoded.decoded) cast ∙ c.in_ok-decoded.ensures.instructions place in
     c.in_ok-push_line_at.ensures.ok ∙ ap (λ (o : Option Insn). c.loop-place.text.items ++ line_at o) here
     in
     one_place (λ p. line_at (instruction_at code p)) c.units-place-end.result place c.loop-place.text.items c.push_line_at.new.text.items (text_of_code code)
