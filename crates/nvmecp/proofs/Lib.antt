@@ -1,5 +1,6 @@
 pub mod BuiltSends
 pub mod Counts
+pub mod Dues
 pub mod Fronts
 pub mod Inputs
 pub mod Legal

@@ -1,5 +1,5 @@
 -- What is printed of a plan that was carried out is a legal history of the script.
-use Rattle.std.proofs.Common.{◌≡◌, ℕ, List, [], ◌++◌, length, map, Result, Ok, Err, is_ok, sym, refl, ap, ◌∙◌, subst, arith}
+use Rattle.std.proofs.Common.{◌≡◌, ℕ, List, [], ◌++◌, length, map, Result, Ok, Err, is_ok, sym, refl, ap, ◌∙◌, subst}
 use Rattle.std.specs.List.{concat}
 use Rattle.std.proofs.lemmas.Bool.{false≢true}
 use Rattle.std.proofs.lemmas.List.{length-map}
@@ -15,7 +15,7 @@ use Rattle.history_model.specs.Sent.{Sent, sends_of}
 use Rattle.history_model.specs.Text.{entries_text, shows_text}
 use Rattle.script_plan.specs.Meant.{meant}
 use Rattle.nvmecp.specs.Finished.{IsFinished, finished_text}
-use Rattle.nvmecp.specs.Input.{IsPrintOf}
+use Rattle.nvmecp.specs.Script.{IsPrintOf}
 use Rattle.nvmecp.specs.Lines.{place_lines, shown_lines}
 use Rattle.nvmecp.specs.Place.{Place, CarriesOut, place_of, places_of_phases}
 use Rattle.nvmecp.specs.Shown.{places_of}

@@ -1,15 +1,14 @@
 -- The shows of a script that keeps its order and limits lie inside its namespaces.
-use Rattle.std.proofs.Common.{◌≡◌, ℕ, zero, suc, ◌+◌, ◌≤◌, nat_le, ◌==◌, Bool, true, false, ◌&&◌, List, [], ◌∷◌, ◌++◌, length, replicate, map, Result, Ok, Err, is_ok, if◌then◌else◌, sym, refl, ap, subst, ◌∙◌, arith, rules}
-use Rattle.std.specs.Prelude.{All, slice_set, unwrap_or}
+use Rattle.std.proofs.Common.{◌≡◌, ℕ, suc, ◌+◌, ◌≤◌, nat_le, ◌==◌, Bool, true, false, ◌&&◌, List, [], ◌∷◌, ◌++◌, length, replicate, Ok, Err, is_ok, if◌then◌else◌, sym, refl, ap, subst, ◌∙◌, arith}
+use Rattle.std.specs.Prelude.{slice_set, unwrap_or}
 use Rattle.std.specs.List.{AllByRecursion}
 use Rattle.std.proofs.Math.Seq.{set-append_seam}
 use Rattle.std.proofs.lemmas.Bool.{false≢true}
 use Rattle.std.proofs.lemmas.Bool.Decides.{nat_tests}
-use Rattle.std.proofs.lemmas.List.{append-nil, append_assoc}
-use Rattle.cp_base.specs.Configuration.{Configuration, bare, size_of, with_size}
+use Rattle.std.proofs.lemmas.List.{append_assoc}
+use Rattle.cp_base.specs.Configuration.{Configuration, bare, size_of}
 use Rattle.cp_base.specs.declared.region.SpaceId.{SpaceId}
 use Rattle.cp_base.specs.declared.region.SpaceId.TheVariants as space
-use Rattle.script_cmds.specs.declared.fault.TextCause.{TextCause}
 use Rattle.script_cmds.specs.declared.fault.TextCause.TheVariants as cause
 use Rattle.script_cmds.specs.declared.item.Item.{Item}
 use Rattle.script_cmds.specs.declared.item.Item.TheVariants as item
@@ -20,11 +19,11 @@ use Rattle.script_cmds.specs.declared.kind.LineKind.{LineKind}
 use Rattle.script_cmds.specs.declared.kind.LineKind.TheVariants as line
 use Rattle.script_cmds.specs.declared.progress.Progress.{Progress}
 use Rattle.script_cmds.specs.declared.script.Script.{Script}
-use Rattle.script_cmds.specs.Fault.{◌>>=◌, after_lines, judged}
+use Rattle.script_cmds.specs.Fault.{◌>>=◌, after_lines}
 use Rattle.script_cmds.specs.Kept.{KeepsOrderAndLimits}
 use Rattle.script_cmds.specs.Line.{Line, counts}
 use Rattle.script_cmds.specs.Progress.{advanced, is_in_order, is_within_limits, is_within, show_fits, start}
-use Rattle.script_cmds.specs.Text.{configuration_lines, item_line, item_lines, lines_of, numbers_line, part_lines, phase_lines, region_line, show_line, show_lines, size_lines}
+use Rattle.script_cmds.specs.Text.{configuration_lines, item_line, item_lines, numbers_line, part_lines, phase_lines, region_line, show_line, show_lines, size_lines}
 use Rattle.history_model.proofs.Every.{every-All}
 use Rattle.nvmecp.specs.Shown.{AreInside}
 

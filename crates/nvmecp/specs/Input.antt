@@ -1,49 +1,40 @@
--- What becomes of an input. This project's own.
-use Rattle.std.specs.Prelude.{◌≡◌, ℕ, ◌<◌, ◌≤◌, ◌⊎◌, List, Ok, Err, None, Some, IsOk, IsErr, length}
-use Rattle.script_cmds.specs.declared.fault.ScriptFault.{ScriptFault}
-use Rattle.script_cmds.specs.declared.item.Phase.{Phase}
-use Rattle.script_cmds.specs.declared.script.Script.{Script}
-use Rattle.script_cmds.specs.Fault.{first_fault}
-use Rattle.script_cmds.specs.Text.{script_text}
-use Rattle.history_model.specs.Entry.{Entry}
-use Rattle.history_model.specs.Legal.{IsLegal}
-use Rattle.history_model.specs.Plan.{PlanFault, plan_of}
-use Rattle.history_model.specs.Text.{history_text}
-use Rattle.nvmecp.specs.Refusal.{breach_line, fault_line, too_long_line}
+-- What becomes of an input, by what the words ask for. This project's own.
+use Rattle.std.specs.Prelude.{◌≡◌, ℕ, ◌<◌, ◌≤◌, List, length}
+use Rattle.nvmecp.specs.Code.{HasCode, HasNoCode, IsAssembly, IsDisassembly, IsHexCode, IsNoHexCode, TellsAssembly, TellsCode}
+use Rattle.nvmecp.specs.Refusal.{too_long_line}
+use Rattle.nvmecp.specs.Script.{HasPlan, HasNoPlan, IsHistory, TellsScript}
+use Rattle.nvmecp.specs.declared.words.Asked.{Asked}
+use Rattle.nvmecp.specs.declared.words.Asked.TheVariants as asked
 
 -- the most bytes of an input
 abbrev pub max_input : ℕ
 max_input = 16777216
 
--- The input is accepted: no line of it is faulty, and the script whose text it is has a plan.
-pub record Accepts (input : List ℕ) : Type 0 where
-  pub faultless : first_fault input ≡ None
-  pub planned : (script : Script) → script_text script ≡ input → IsOk (plan_of script)
+-- the input is accepted
+abbrev pub Accepts : Asked → List ℕ → Type 0
+Accepts (asked.Step choices) input = HasPlan input
+Accepts asked.Asm input = HasCode input
+Accepts asked.Dis input = IsHexCode input
 
--- The input is refused: a line of it is faulty, or the script whose text it is has no plan.
-abbrev pub Rejects : List ℕ → Type 0
-Rejects input = (first_fault input ≡ None → ⊥) ⊎ ((script : Script) → script_text script ≡ input → IsErr (plan_of script))
+-- the input is rejected
+abbrev pub Rejects : Asked → List ℕ → Type 0
+Rejects (asked.Step choices) input = HasNoPlan input
+Rejects asked.Asm input = HasNoCode input
+Rejects asked.Dis input = IsNoHexCode input
 
--- The text that is due where an input is refused: too many bytes came, or else its first faulty line is
--- told, or, where no line is faulty, the first line that breaks a rule of queues.
-pub data IsRefusal (input : List ℕ) (text : List ℕ) : Type 0 where
-  TooLong : max_input < length input → text ≡ too_long_line → IsRefusal input text
-  Faulty : (fault : ScriptFault) → length input ≤ max_input → first_fault input ≡ Some fault → text ≡ fault_line fault → IsRefusal input text
-  Unplanned : (script : Script) (fault : PlanFault) → length input ≤ max_input → first_fault input ≡ None → script_text script ≡ input
-      → plan_of script ≡ Err fault → text ≡ breach_line fault → IsRefusal input text
+-- the text is the one that was asked for
+abbrev pub IsAnswer : Asked → List ℕ → List ℕ → Type 0
+IsAnswer (asked.Step choices) input text = IsHistory input text
+IsAnswer asked.Asm input text = IsAssembly input text
+IsAnswer asked.Dis input text = IsDisassembly input text
 
--- The text is that of a history that is legal for the plan of a script.
-pub record IsPrintOf (script : Script) (text : List ℕ) : Type 0 where
-  pub plan : List Phase
-  pub planned : plan_of script ≡ Ok plan
-  pub history : List Entry
-  pub legal : IsLegal script.config plan history
-  pub printed : text ≡ history_text script.config script.shows history
+-- the text tells why the input is rejected
+abbrev pub Tells : Asked → List ℕ → List ℕ → Type 0
+Tells (asked.Step choices) input text = TellsScript input text
+Tells asked.Asm input text = TellsAssembly input text
+Tells asked.Dis input text = TellsCode input text
 
--- The input is a script, and the text is that of a history that is legal for its plan.
-pub record IsHistory (input : List ℕ) (text : List ℕ) : Type 0 where
-  pub within : length input ≤ max_input
-  pub faultless : first_fault input ≡ None
-  pub script : Script
-  pub read : script_text script ≡ input
-  pub print : IsPrintOf script text
+-- the text that is due where an input is refused: too many bytes came, or it is rejected
+pub data IsRefusal (words : Asked) (input : List ℕ) (text : List ℕ) : Type 0 where
+  TooLong : max_input < length input → text ≡ too_long_line → IsRefusal words input text
+  Rejected : length input ≤ max_input → Tells words input text → IsRefusal words input text

@@ -1,8 +1,10 @@
+pub mod Code
 pub mod Finished
 pub mod Input
 pub mod Lines
 pub mod Place
 pub mod Refusal
 pub mod Run
+pub mod Script
 pub mod Shown
 pub mod Words

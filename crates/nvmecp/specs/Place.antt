@@ -1,5 +1,5 @@
 -- Commands by their names, and what a device answers to them one by one. This project's own.
-use Rattle.std.specs.Prelude.{◌≡◌, ℕ, ◌+◌, ◌==◌, Bool, true, false, IsTrue, List, [], ◌∷◌, ◌++◌, map, count_by}
+use Rattle.std.specs.Prelude.{◌≡◌, ℕ, ◌+◌, ◌==◌, IsTrue, List, [], ◌∷◌, ◌++◌, count_by}
 use Rattle.cp_base.specs.Answer.{Answer}
 use Rattle.cp_base.specs.Built.{is_built}
 use Rattle.cp_base.specs.Configuration.{Configuration}

@@ -13,6 +13,10 @@ too_long_line = codes "too long" ++ 10 ∷ []
 abbrev pub refusal_line : ℕ → List ℕ → List ℕ
 refusal_line line name = codes "line " ++ decimal line ++ codes ": " ++ name ++ 10 ∷ []
 
+-- the line that tells a place of code that has no instruction
+abbrev pub place_line : ℕ → List ℕ
+place_line place = codes "place " ++ decimal place ++ codes ": BadInsn" ++ 10 ∷ []
+
 -- the name of what is wrong with a line by itself, its place and its limits
 abbrev pub cause_text : TextCause → List ℕ
 cause_text cause.Word = codes "Word"

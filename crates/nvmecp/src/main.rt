@@ -1,16 +1,20 @@
 //! The program: one device that hosts share, run from a script of what the hosts do.
 #![tactic(auto)]
 
+mod assembling;
 mod in_order;
 mod printing;
 mod refusing;
 mod run;
+mod status;
+mod stepping;
 #[cfg(test)]
 mod tests;
 mod words;
 
 use cp_io::{StdSink, StdSource};
-use run::{NO_MEMORY, USAGE, run};
+use run::run;
+use status::{NO_MEMORY, USAGE};
 use std::process::ExitCode;
 use std::{env, io};
 

@@ -141,6 +141,33 @@ pub fn print<K: Sink>(sink: &mut K, finished: Finished, shows: &[Show]) -> Resul
     print_shows(sink, &mut line, &finished.device, shows)
 }
 
+// How many bytes the first line of a text has, with its newline.
+fn first_line(text: &[u8]) -> usize
+    requires { 0 < length text.now }
+    ensures { (0 < result) × (result ≤ length text.now) }
+{
+    match text.iter().position(|byte| *byte == b'\n') {
+        Some(end) => end + 1,
+        None => text.len(),
+    }
+}
+
+/// Writes a text, each of its lines as one piece.
+pub fn print_lines<K: Sink>(sink: &mut K, text: &[u8]) -> Result<(), WriteFault>
+    ensures all { OnOk result (Appends (K.held sink.old) (K.held sink.new) text.now) }
+    ensures front { OnErr result (AppendsFront (K.held sink.old) (K.held sink.new) text.now) }
+    ensures fault { OnErr result (Rose (K.faults sink.old) (K.faults sink.new)) }
+    ensures later { K.faults sink.old ≤ K.faults sink.new }
+{
+    let mut written = 0;
+    while written < text.len() {
+        let end = written + first_line(&text[written..]);
+        write_all(sink, &text[written..end])?;
+        written = end;
+    }
+    Ok(())
+}
+
 // The word of a command, as it stands in a script and in a history.
 fn word_of(command: &Command) -> CommandWord
     ensures { result ≡ word_of command.now }

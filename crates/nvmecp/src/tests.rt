@@ -38,11 +38,11 @@ fn ran(alloc: Global, words: &str, source: &mut MemSource, sink: &mut MemSink) -
     Some(run(alloc, words_of(alloc, words)?.as_slice(), source, sink))
 }
 
-// The status of a run of `step 1 0` on an input, and whether exactly this text is held.
-fn step(alloc: Global, input: &str, output: &str) -> Option<(u8, bool)> {
+// The status of a run of these words on an input, and whether exactly this text is held.
+fn given(alloc: Global, words: &str, input: &str, output: &str) -> Option<(u8, bool)> {
     let mut source = source(alloc, input.as_bytes(), 64, &[])?;
     let mut sink = sink(alloc, &[])?;
-    let status = ran(alloc, "step 1 0", &mut source, &mut sink)?;
+    let status = ran(alloc, words, &mut source, &mut sink)?;
     Some((status, sink.held() == output.as_bytes()))
 }
 
@@ -184,10 +184,80 @@ const CASES: [(&str, u8, &str); 26] = [
 fn scripts_give_their_texts(rt: HostRuntime) {
     for (input, status, output) in CASES {
         assert_eq!(rt;
-            step(rt.alloc(), input, output),
+            given(rt.alloc(), "step 1 0", input, output),
             Some((status, true)),
             "{input}"
         );
+    }
+}
+
+#[test]
+fn code_is_assembled_and_disassembled(rt: HostRuntime) {
+    let wide = "lddw r1 4294967296\nldxb r0 r1 -1\njeq32 r0 -5 -2\nexit\n";
+    let wide_code =
+        "180100000000000000000000010000007110ffff000000001600fefffbffffff9500000000000000\n";
+    for (words, input, status, output) in [
+        (
+            "asm",
+            "mov64 r0 7\nexit\n",
+            0,
+            "b7000000070000009500000000000000\n",
+        ),
+        (
+            "dis",
+            "b7000000070000009500000000000000\n",
+            0,
+            "mov64 r0 7\nexit\n",
+        ),
+        ("asm", wide, 0, wide_code),
+        ("dis", wide_code, 0, wide),
+        ("asm", "mov64 r10 7\n", 2, "line 1: Asm\n"),
+        ("asm", "mov64 r0 -0\n", 2, "line 1: Asm\n"),
+        ("asm", "", 2, "line 1: Asm\n"),
+        ("asm", "exit\nexit", 2, "line 2: Asm\n"),
+        ("dis", "ff00000000000000\n", 2, "place 0: BadInsn\n"),
+        (
+            "dis",
+            "b700000001000000ff00000000000000\n",
+            2,
+            "place 1: BadInsn\n",
+        ),
+        ("dis", "b7\n", 2, "place 0: BadInsn\n"),
+        ("dis", "\n", 2, "place 0: BadInsn\n"),
+        ("dis", "B7\n", 2, "line 1: Hex\n"),
+        ("dis", "9500000000000000", 2, "line 1: Hex\n"),
+        ("dis", "9500000000000000\n\n", 2, "line 1: Hex\n"),
+        ("dis", "", 2, "line 1: Hex\n"),
+    ] {
+        assert_eq!(rt;
+            given(rt.alloc(), words, input, output),
+            Some((status, true)),
+            "{words}: {input}"
+        );
+    }
+}
+
+// The status of a run of `dis` on so many instructions `exit`, and how many bytes the sink holds.
+fn exits(alloc: Global, count: usize, writes: &[u32]) -> Option<(u8, usize)> {
+    let code = "9500000000000000".repeat(alloc, count).ok()?;
+    let input = format!(in alloc; "{code}\n").ok()?;
+    let mut source = source(alloc, input.as_bytes(), 4096, &[])?;
+    let mut sink = sink(alloc, writes)?;
+    let status = ran(alloc, "dis", &mut source, &mut sink)?;
+    Some((status, sink.held().len()))
+}
+
+#[test]
+fn long_code_is_written_line_by_line(rt: HostRuntime) {
+    let none: &[u32] = &[];
+    for (count, writes, status, held) in [
+        (8192, none, 0, 8192 * 5),
+        // `line 1: Limit` and a newline.
+        (8193, none, 2, 14),
+        // Each `exit` and its newline is one call of the sink.
+        (8192, [1001].as_slice(), 4, 5000),
+    ] {
+        assert_eq!(rt; exits(rt.alloc(), count, writes), Some((status, held)));
     }
 }
 
@@ -267,8 +337,9 @@ fn wrong_words_touch_nothing(rt: HostRuntime) {
         "step 2 0",
         "serve 1",
         "make 0 0",
-        "asm",
-        "dis",
+        "asm 1",
+        "dis dis",
+        "-asm",
         "step 1 0 0",
         "--help",
     ] {
@@ -338,10 +409,11 @@ fn too_many_bytes_are_told(rt: HostRuntime) {
     assert_eq!(rt; sized(rt.alloc(), 16_777_216), Some((2, 13)), "no newline");
 }
 
-// A sink that takes one byte at a time, and holds what it took.
+// A sink that takes at most so many bytes at a time, and holds what it took.
 #[derive(Drop)]
 struct Drip {
     bytes: Bytes,
+    most: usize,
     faults: u64,
 }
 
@@ -351,20 +423,23 @@ impl Sink for Drip {
     ghost faults = { λ s. s.faults };
 
     fn write(&mut self, piece: &[u8]) -> Took {
-        if self.bytes.push(piece[0]).is_err() {
+        let count = piece.len().min(self.most.max(1));
+        if self.bytes.reserve(count as u64).is_err() {
             self.faults = self.faults.saturating_add(1);
             return Took::Failed;
         }
-        Took::Count(1)
+        self.bytes.append(&piece[..count]);
+        Took::Count(count)
     }
 }
 
-// The status of a run over a source of one byte a read and a sink of one byte a write, and how many
-// bytes the sink holds.
-fn dripped(alloc: Global) -> Option<(u8, u64)> {
+// The status of a run over a source of one byte a read and a sink of at most so many bytes a write, and
+// how many bytes the sink holds.
+fn dripped(alloc: Global, most: usize) -> Option<(u8, u64)> {
     let mut source = source(alloc, WRITE.as_bytes(), 1, &[])?;
     let mut sink = Drip {
         bytes: Bytes::new(alloc),
+        most,
         faults: 0,
     };
     let words = words_of(alloc, "step 1 7")?;
@@ -375,5 +450,7 @@ fn dripped(alloc: Global) -> Option<(u8, u64)> {
 
 #[test]
 fn short_reads_and_writes_are_taken_up(rt: HostRuntime) {
-    assert_eq!(rt; dripped(rt.alloc()), Some((0, 64)));
+    for most in [1, 7] {
+        assert_eq!(rt; dripped(rt.alloc(), most), Some((0, 64)));
+    }
 }

@@ -1,4 +1,4 @@
-use Rattle.std.proofs.Common.{◌≡◌, ℕ, ◌+◌, List, ◌++◌, length, unwrap_or, sym, ap, ◌∙◌, subst, arith, rules}
+use Rattle.std.proofs.Common.{◌≡◌, ℕ, ◌+◌, List, ◌++◌, length, sym, ap, ◌∙◌, subst, arith, rules}
 use Rattle.nvmecp.specs.Place.{Place, places_of_items, count_of, with_part}
 use Rattle.nvmecp.specs.Shown.{KnowsCounts, places_of}
 use Rattle.nvmecp.proofs.Counts.{counts_kept}

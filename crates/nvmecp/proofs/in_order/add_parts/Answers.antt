@@ -1,4 +1,4 @@
-use Rattle.std.proofs.Common.{◌≡◌, ℕ, ◌+◌, ◌≤◌, List, length, drop, sym, ap, ◌∙◌, arith}
+use Rattle.std.proofs.Common.{ℕ, ◌+◌, List, length, drop, sym, ap, ◌∙◌, arith}
 use Rattle.nvmecp.specs.Place.{Place, with_part, places_of_parts}
 use Rattle.nvmecp.specs.Shown.{places_of}
 use Rattle.nvmecp.proofs.Counts.{fits_parts, parts_at}

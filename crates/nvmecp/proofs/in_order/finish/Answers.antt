@@ -1,4 +1,4 @@
-use Rattle.std.proofs.Common.{◌≡◌, ℕ, ◌+◌, ◌≤◌, List, [], length, map, sym, ap, subst, ◌∙◌, arith, rules}
+use Rattle.std.proofs.Common.{◌≡◌, List, [], length, map, sym, ap, subst, ◌∙◌, arith}
 use Rattle.std.proofs.lemmas.List.{length-map}
 use Rattle.cp_base.specs.Answer.{Answer, answer_of}
 use Rattle.cp_base.specs.Configuration.{Configuration}
@@ -6,7 +6,7 @@ use Rattle.device_model.specs.State.{State}
 use Rattle.script_cmds.specs.declared.item.Phase.{Phase}
 use Rattle.seq_device.specs.Standing.{Standing}
 use Rattle.history_model.specs.Sent.{sends_of}
-use Rattle.nvmecp.specs.Place.{Place, AreBuilt, CarriesOut, place_of, places_of_phases}
+use Rattle.nvmecp.specs.Place.{AreBuilt, CarriesOut, place_of, places_of_phases}
 use Rattle.nvmecp.specs.Shown.{place_of_placed, places_of}
 use Rattle.nvmecp.specs.declared.in_order.Placed.{Placed}
 use Rattle.nvmecp.proofs.Legal.{places_are}

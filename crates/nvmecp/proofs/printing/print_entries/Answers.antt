@@ -1,7 +1,5 @@
-use Rattle.std.proofs.Common.{◌≡◌, ℕ, ◌+◌, ◌≤◌, List, map, sym, ap, subst, arith}
-use Rattle.std.specs.Io.KnownBytes.{Appends}
+use Rattle.std.proofs.Common.{ℕ, List, map, arith}
 use Rattle.cp_base.specs.Answer.{answer_of}
-use Rattle.cp_io.specs.Sink.{AppendsFront}
 use Rattle.nvmecp.specs.Lines.{place_lines}
 use Rattle.nvmecp.specs.Shown.{places_of}
 use Rattle.nvmecp.proofs.Written.{all, count_lines, cut, more, the_line, told}

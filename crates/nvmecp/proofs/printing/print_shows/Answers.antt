@@ -1,6 +1,4 @@
-use Rattle.std.proofs.Common.{◌≡◌, ℕ, ◌+◌, ◌≤◌, List, sym, ap, subst, arith}
-use Rattle.std.specs.Io.KnownBytes.{Appends}
-use Rattle.cp_io.specs.Sink.{AppendsFront}
+use Rattle.std.proofs.Common.{ℕ, arith}
 use Rattle.nvmecp.specs.Lines.{shown_lines}
 use Rattle.nvmecp.proofs.Written.{all, count_shown, cut, more, shown_line, told}
 use Rattle.nvmecp.proofs.printing.print_shows.Goals as goal

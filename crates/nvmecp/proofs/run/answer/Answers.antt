@@ -1,49 +1,41 @@
-use Rattle.std.proofs.Common.{◌≡◌, ℕ, List, Err, inr, ap, subst}
-use Rattle.script_cmds.specs.Ends.{Tells}
-use Rattle.script_cmds.specs.Fault.{first_fault}
-use Rattle.script_cmds.specs.declared.fault.ParseEnd.{ParseEnd}
-use Rattle.script_cmds.specs.declared.fault.ScriptFault.{ScriptFault}
-use Rattle.history_model.specs.Plan.{PlanFault, plan_of}
-use Rattle.script_plan.specs.Cause.{ForFault, told}
-use Rattle.script_plan.specs.declared.answer.PlanEnd.{PlanEnd}
-use Rattle.nvmecp.specs.Input.{IsRefusal, Faulty, Unplanned}
-use Rattle.nvmecp.specs.Refusal.{refusal_line}
+use Rattle.std.proofs.Common.{sym, subst}
+use Rattle.nvmecp.specs.Input.{IsAnswer, IsRefusal}
+use Rattle.nvmecp.specs.Run.{IsDue, Writes, WritesFront}
+use Rattle.nvmecp.specs.declared.words.Asked.{Asked}
+use Rattle.nvmecp.specs.declared.words.Asked.TheVariants as asked
+use Rattle.nvmecp.proofs.Dues.{cut_short, refused}
 use Rattle.nvmecp.proofs.run.answer.Goals as goal
 
-pub returns-in-Err-Fault-clause-refused : goal.returns-in-Err-Fault-clause-refused
-returns-in-Err-Fault-clause-refused g c = λ refused.
-    let fault : ScriptFault = c.in-Err-Fault.fault in
-    record {
-      text = refusal_line fault.line c.cause_name.result.now;
-      due = Faulty fault c.requires (subst (λ (end : ParseEnd). Tells end (first_fault c.args.input.now.items)) c.in-Err-Fault.field-0-is c.in-Err-Fault.ensures.fault) (ap (refusal_line fault.line) c.cause_name.ensures);
-      written = c.refuse_line.ensures.refused refused;
-    }
+pub returns-in-Step-clause-done : goal.returns-in-Step-clause-done
+returns-in-Step-clause-done g c = λ done.
+    let held = g.K.Sink.held in
+    subst (λ (a : Asked). Writes (IsAnswer a c.args.input.now.items) (held c.args.sink.now) (held c.step.new.sink)) (sym c.in-Step.is) (c.step.ensures.done done)
 
-pub returns-in-Err-Fault-clause-cut_short : goal.returns-in-Err-Fault-clause-cut_short
-returns-in-Err-Fault-clause-cut_short g c = λ cut.
-    let fault : ScriptFault = c.in-Err-Fault.fault in
-    record {
-      text = refusal_line fault.line c.cause_name.result.now;
-      due = inr (Faulty fault c.requires (subst (λ (end : ParseEnd). Tells end (first_fault c.args.input.now.items)) c.in-Err-Fault.field-0-is c.in-Err-Fault.ensures.fault) (ap (refusal_line fault.line) c.cause_name.ensures));
-      front = c.refuse_line.ensures.front cut;
-    }
+pub returns-in-Step-clause-refused : goal.returns-in-Step-clause-refused
+returns-in-Step-clause-refused g c = λ told.
+    let held = g.K.Sink.held in
+    subst (λ (a : Asked). Writes (IsRefusal a c.args.input.now.items) (held c.args.sink.now) (held c.step.new.sink)) (sym c.in-Step.is)
+    (refused (asked.Step c.in-Step.choices) c.args.input.now.items (held c.args.sink.now) (held c.step.new.sink) c.requires (c.step.ensures.refused told))
 
-pub returns-in-Err-Fault-plan-clause-refused : goal.returns-in-Err-Fault-plan-clause-refused
-returns-in-Err-Fault-plan-clause-refused g c = λ refused.
-    let fault : PlanFault = told c.in-Err-Fault-plan.fault in
-    record {
-      text = refusal_line fault.line c.breach_name.result.now;
-      due = Unplanned c.in-Ok.script fault c.requires c.in-Ok.ensures.accepted c.in-Ok.ensures.text
-          (subst (λ (end : PlanEnd). ForFault end (λ f. plan_of c.in-Ok.script ≡ Err f)) c.in-Err-Fault-plan.field-0-is c.in-Err-Fault-plan.ensures.fault) (ap (refusal_line fault.line) c.breach_name.ensures);
-      written = c.refuse_line-in-Err-Fault-plan.ensures.refused refused;
-    }
+pub returns-in-Step-clause-cut_short : goal.returns-in-Step-clause-cut_short
+returns-in-Step-clause-cut_short g c = λ cut.
+    let held = g.K.Sink.held in
+    subst (λ (a : Asked). WritesFront (IsDue a c.args.input.now.items) (held c.args.sink.now) (held c.step.new.sink)) (sym c.in-Step.is)
+    (cut_short (asked.Step c.in-Step.choices) c.args.input.now.items (held c.args.sink.now) (held c.step.new.sink) c.requires (c.step.ensures.cut_short cut))
 
-pub returns-in-Err-Fault-plan-clause-cut_short : goal.returns-in-Err-Fault-plan-clause-cut_short
-returns-in-Err-Fault-plan-clause-cut_short g c = λ cut.
-    let fault : PlanFault = told c.in-Err-Fault-plan.fault in
-    record {
-      text = refusal_line fault.line c.breach_name.result.now;
-      due = inr (Unplanned c.in-Ok.script fault c.requires c.in-Ok.ensures.accepted c.in-Ok.ensures.text
-          (subst (λ (end : PlanEnd). ForFault end (λ f. plan_of c.in-Ok.script ≡ Err f)) c.in-Err-Fault-plan.field-0-is c.in-Err-Fault-plan.ensures.fault) (ap (refusal_line fault.line) c.breach_name.ensures));
-      front = c.refuse_line-in-Err-Fault-plan.ensures.front cut;
-    }
+pub returns-in-Dis-clause-done : goal.returns-in-Dis-clause-done
+returns-in-Dis-clause-done g c = λ done.
+    let held = g.K.Sink.held in
+    subst (λ (a : Asked). Writes (IsAnswer a c.args.input.now.items) (held c.args.sink.now) (held c.disassemble_code.new.sink)) (sym c.in-Dis.is) (c.disassemble_code.ensures.done done)
+
+pub returns-in-Dis-clause-refused : goal.returns-in-Dis-clause-refused
+returns-in-Dis-clause-refused g c = λ told.
+    let held = g.K.Sink.held in
+    subst (λ (a : Asked). Writes (IsRefusal a c.args.input.now.items) (held c.args.sink.now) (held c.disassemble_code.new.sink)) (sym c.in-Dis.is)
+    (refused asked.Dis c.args.input.now.items (held c.args.sink.now) (held c.disassemble_code.new.sink) c.requires (c.disassemble_code.ensures.refused told))
+
+pub returns-in-Dis-clause-cut_short : goal.returns-in-Dis-clause-cut_short
+returns-in-Dis-clause-cut_short g c = λ cut.
+    let held = g.K.Sink.held in
+    subst (λ (a : Asked). WritesFront (IsDue a c.args.input.now.items) (held c.args.sink.now) (held c.disassemble_code.new.sink)) (sym c.in-Dis.is)
+    (cut_short asked.Dis c.args.input.now.items (held c.args.sink.now) (held c.disassemble_code.new.sink) c.requires (c.disassemble_code.ensures.cut_short cut))
