@@ -1,6 +1,6 @@
 -- Code and its text: the lines of the instructions at the starts are those of the instructions that the code
 -- is made of.
-use Rattle.std.proofs.Common.{◌≡◌, ℕ, zero, suc, ◌+◌, ◌-◌, ◌*◌, ◌/◌, ◌<◌, ◌≤◌, Bool, true, false, List, [], ◌∷◌, ◌++◌, length, get_or, take, drop, slice_index, Option, Some, None, refl, sym, ap, subst, ◌∙◌, append_assoc, arith, length-append}
+use Rattle.std.proofs.Common.{◌≡◌, ℕ, zero, suc, ◌+◌, ◌-◌, ◌*◌, ◌/◌, ◌<◌, ◌≤◌, List, [], ◌∷◌, ◌++◌, length, get_or, drop, slice_index, Option, Some, None, refl, sym, ap, subst, ◌∙◌, append_assoc, arith, length-append}
 use Rattle.std.specs.Prelude.{All, nat_lt, ◌==◌}
 use Rattle.std.specs.List.{flat_map, range_with_len}
 use Rattle.std.specs.Option.{option_map_or}
@@ -9,7 +9,7 @@ use Rattle.std.proofs.lemmas.Grind.{flat_map-append}
 use Rattle.std.proofs.lemmas.List.{append-nil, take-append-drop}
 use Rattle.bpf_isa.specs.declared.insn.Insn.{Insn}
 use Rattle.bpf_isa.specs.declared.insn.Insn.TheVariants as insn
-use Rattle.bpf_model.specs.Encoding.{encoding, IsAllowed, IsEncodedAt}
+use Rattle.bpf_model.specs.Encoding.{encoding}
 use Rattle.bpf_model.specs.Form.{form, first_form}
 use Rattle.bpf_model.specs.Walk.{units_of, stop_from, bad_place, IsWellFormed, instruction_at}
 use Rattle.bpf_model.proofs.BothWays.{bytes_small, first_form-encoding, form-encoded, length-encoding}

@@ -1,6 +1,6 @@
 -- A line is read exactly where it is the line of an allowed instruction.
-use Rattle.std.proofs.Common.{◌≡◌, ℕ, zero, suc, ◌+◌, ◌<◌, ◌≤◌, ◌^◌, ℤ, pos, negsuc, Bool, true, false, not, ◌&&◌, cond, eqb, leb, ltb, List, [], ◌∷◌, ◌++◌, length, map, Option, Some, None, option_map, get_or, inl, inr, refl, sym, ap, subst, ◌∙◌, arith}
-use Rattle.std.specs.Prelude.{decimal, option_and_then, FitsSigned, IsTrue, All, find}
+use Rattle.std.proofs.Common.{◌≡◌, ℕ, suc, ◌<◌, ◌≤◌, ◌^◌, ℤ, Bool, true, false, not, ◌&&◌, cond, eqb, leb, List, [], ◌∷◌, ◌++◌, length, map, Some, option_map, get_or, inl, inr, refl, sym, ap, subst, ◌∙◌, arith}
+use Rattle.std.specs.Prelude.{decimal, option_and_then, FitsSigned, find}
 use Rattle.std.specs.List.{list_all, join_with_byte}
 use Rattle.std.specs.Str.{bytes_eq}
 use Rattle.std.specs.Int.{w16, w32, w64}
@@ -15,7 +15,7 @@ use Rattle.bpf_isa.specs.declared.operation.JumpOp.{JumpOp}
 use Rattle.bpf_isa.specs.declared.operation.JumpOp.TheVariants as jump
 use Rattle.bpf_isa.specs.declared.operation.AtomicOp.{AtomicOp}
 use Rattle.bpf_isa.specs.declared.operation.AtomicOp.TheVariants as atomic
-use Rattle.bpf_model.specs.Encoding.{IsAllowed, is_binary, is_division, is_move_32, is_move_64, is_narrow, is_atomic_size, is_plain, is_fetch}
+use Rattle.bpf_model.specs.Encoding.{IsAllowed, is_binary, is_division, is_narrow, is_atomic_size, is_plain, is_fetch}
 use Rattle.bpf_asm.specs.Mnemonic.{mnemonic_text}
 use Rattle.bpf_asm.specs.Line.{operand_text, mnemonic_of, operands_of, parts_of, line_of}
 use Rattle.bpf_asm.specs.declared.mnemonic.Mnemonic.{Mnemonic}
@@ -24,17 +24,17 @@ use Rattle.bpf_asm.specs.declared.mnemonic.TheConstants.{MNEMONICS}
 use Rattle.bpf_asm.specs.declared.source.Source.{Source}
 use Rattle.bpf_asm.specs.declared.source.Source.TheVariants as source
 use Rattle.cp_text.specs.Number.{number_of}
-use Rattle.bpf_asm.specs.declared.operand.Operand.TheVariants.{Register, Signed, Number}
-use Rattle.bpf_asm.specs.Reading.{insn_of, insn_in, mnemonic_named, lacks, parts_between, dst_source, dst_bits, dst_src_offset, dst_offset_src, read_one, read_two, read_three, register_of, offset_of, imm_of, source_of, bits_named, move_to_32, move_to_64, helper_named, binary, division, move, branch}
+use Rattle.bpf_asm.specs.declared.operand.Operand.TheVariants.{Register, Signed}
+use Rattle.bpf_asm.specs.Reading.{insn_of, insn_in, mnemonic_named, lacks, parts_between, dst_source, dst_bits, dst_src_offset, dst_offset_src, read_one, read_two, read_three, register_of, offset_of, imm_of, source_of, move_to_32, move_to_64, helper_named, binary, division, move, branch}
 use Rattle.std.specs.Fmt.{signed_decimal}
-use Rattle.std.proofs.lemmas.Bool.{and_parts, and_from, eqb-true, leb-true, le-leb}
+use Rattle.std.proofs.lemmas.Bool.{and_parts, and_from, eqb-true, le-leb}
 use Rattle.std.proofs.lemmas.List.Folds.{list_all-append}
 use Rattle.std.proofs.lemmas.List.Splits.{join_with_byte-slice_split}
 use Rattle.cp_text.proofs.NumberTexts.{decimal-are_digits}
 use Rattle.cp_text.proofs.SignedTexts.{signed_decimal-are_digits}
 use Rattle.bpf_isa.specs.Width.{bits_of}
 use Rattle.bpf_model.specs.Encoding.{alu_offset}
-use Rattle.bpf_asm.proofs.Spelling.{Spelling, mapped, then_some, registers, offsets, imms, sources, source_text, SourceFits, numbers, helpers, widths, moves_32, moves_64, wide_16, wide_32, offset_small, bits_small, one_spelled, two_spelled, three_spelled, one_again, two_again, three_again}
+use Rattle.bpf_asm.proofs.Spelling.{mapped, then_some, registers, offsets, imms, sources, source_text, SourceFits, numbers, helpers, widths, moves_32, moves_64, wide_16, wide_32, offset_small, bits_small, one_spelled, two_spelled, three_spelled, one_again, two_again, three_again}
 
 -- the mnemonics of allowed instructions
 abbrev pub is_word : Mnemonic → Bool

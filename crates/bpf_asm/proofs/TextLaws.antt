@@ -1,5 +1,5 @@
 -- A text is of one code only, and it is of a code or has a faulty line.
-use Rattle.std.proofs.Common.{◌≡◌, ℕ, zero, suc, ◌+◌, ◌*◌, ◌<◌, ◌≤◌, Bool, true, false, not, ◌&&◌, cond, eqb, ◌⊎◌, inl, inr, List, [], ◌∷◌, ◌++◌, length, get_or, slice_index, Fits, w8, Option, Some, None, refl, sym, ap, subst, ◌∙◌, append_assoc, arith, length-append}
+use Rattle.std.proofs.Common.{◌≡◌, ℕ, ◌+◌, ◌<◌, ◌≤◌, true, false, not, eqb, ◌⊎◌, inl, inr, List, [], ◌∷◌, ◌++◌, length, get_or, slice_index, Fits, w8, Some, None, refl, sym, ap, subst, ◌∙◌, append_assoc, arith, length-append}
 use Rattle.std.specs.Prelude.{All, OnOk, Result, Ok, Err}
 use Rattle.std.proofs.Math.Facts.{Fits-lt-pow}
 use Rattle.std.proofs.lemmas.Bool.{and_parts}
@@ -12,7 +12,7 @@ use Rattle.bpf_asm.specs.Reading.{insn_in, lacks, parts_between}
 use Rattle.bpf_asm.specs.Text.{text_of_code, AreAllowed, text_of, code_of, IsFaultyAt}
 use Rattle.cp_base.specs.declared.buffer.Bytes.{Bytes}
 use Rattle.bpf_asm.specs.declared.assembler.AsmEnd.{AsmEnd}
-use Rattle.bpf_asm.specs.declared.assembler.AsmEnd.TheVariants.{Fault, NoMemory}
+use Rattle.bpf_asm.specs.declared.assembler.AsmEnd.TheVariants.{Fault}
 use Rattle.bpf_asm.specs.Assembly.{Adds, IsRefused, IsAssembledTo}
 use Rattle.bpf_model.proofs.BothWays.{length-encoding, units_of-pos}
 use Rattle.bpf_asm.proofs.LineLaws.{line_again, line_one, line_lacks, line_read}

@@ -1,5 +1,5 @@
 -- What one line adds to code, and how far a text is assembled. Private contracts speak of these.
-use Rattle.std.specs.Prelude.{◌≡◌, ℕ, ◌+◌, ◌*◌, ◌<◌, ◌≤◌, List, [], ◌∷◌, ◌++◌, length}
+use Rattle.std.specs.Prelude.{◌≡◌, ℕ, ◌+◌, ◌*◌, ◌<◌, ◌≤◌, List, ◌++◌, length}
 use Rattle.bpf_isa.specs.declared.insn.Insn.{Insn}
 use Rattle.bpf_model.specs.Encoding.{encoding, IsAllowed}
 use Rattle.bpf_asm.specs.Line.{line_of}

@@ -1,5 +1,5 @@
 -- The one line of an instruction in assembly text. This project's own; the instructions are those of RFC 9669.
-use Rattle.std.specs.Prelude.{ℕ, ℤ, List, [], ◌∷◌, map, decimal}
+use Rattle.std.specs.Prelude.{ℕ, List, [], ◌∷◌, map, decimal}
 use Rattle.std.specs.List.{join_with_byte}
 use Rattle.std.specs.Fmt.{signed_decimal}
 use Rattle.bpf_isa.specs.declared.insn.Insn.{Insn}

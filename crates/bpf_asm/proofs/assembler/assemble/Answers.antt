@@ -1,10 +1,9 @@
-use Rattle.std.proofs.Common.{◌≡◌, ℕ, ◌+◌, ◌*◌, ◌<◌, ◌≤◌, true, List, [], length, slice_index, refl, sym, ap, subst, ◌∙◌, arith, rules, w8}
+use Rattle.std.proofs.Common.{◌≡◌, ℕ, ◌<◌, List, [], length, slice_index, sym, ap, subst, ◌∙◌, arith, rules}
 use Rattle.std.proofs.lemmas.Result.{err_from_is_err_and}
 use Rattle.std.specs.Prelude.{Err}
 use Rattle.bpf_asm.specs.declared.assembler.AsmEnd.{AsmEnd}
-use Rattle.bpf_model.specs.Walk.{IsWellFormed}
 use Rattle.bpf_asm.specs.Assembly.{IsAssembledTo}
-use Rattle.bpf_asm.specs.Text.{IsFaultyAt, text_of_code}
+use Rattle.bpf_asm.specs.Text.{IsFaultyAt}
 use Rattle.bpf_asm.proofs.TextLaws.{all_assembled, empty_list, fault_is, fault_unended, handed_on, nothing_assembled, one_line, same_small}
 use Rattle.bpf_asm.proofs.assembler.assemble.Goals as goal
 use Rattle.bpf_asm.proofs.assembler.assemble.Goals.{then-not-is_empty-via-then-not-is_empty, then-not-is_empty-via-else-not-is_empty+then-is_empty}
