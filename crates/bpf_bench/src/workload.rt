@@ -1,0 +1,47 @@
+//! The workloads.
+ghost use Rattle.std.specs.Prelude.{◌≡◌, ◌-◌, ◌^◌, ◌≤◌, min};
+ghost use Rattle.bpf_bench.specs.Counts.{instructions_in_all};
+
+/// What is executed. Each program does the same in every round, and there is at least one.
+#[derive(Clone, Copy, Debug, PartialEq, Eq)]
+pub enum Workload {
+    /// Counts the rounds.
+    Loop,
+    /// Adds up the bytes of the range.
+    Sum,
+    /// Stores the number of the round over the range, 8 bytes at a time.
+    Store,
+    /// Counts the rounds by jumps from end to end of a code of 1 KiB.
+    Near,
+    /// Counts the rounds by jumps from end to end of a code of 64 KiB.
+    Far,
+}
+
+impl Workload {
+    /// The workload of this name.
+    pub fn named(word: &str) -> Option<Workload> {
+        match word {
+            "loop" => Some(Workload::Loop),
+            "sum" => Some(Workload::Sum),
+            "store" => Some(Workload::Store),
+            "near" => Some(Workload::Near),
+            "far" => Some(Workload::Far),
+            _ => None,
+        }
+    }
+
+    /// How many instructions its program executes for so many rounds, of which there are 1 or more; at most
+    /// `u64::MAX`.
+    pub fn instructions(self, rounds: u64) -> u64
+        ensures value { result ≡ min (instructions_in_all self rounds) (2 ^ 64 - 1) }
+        ensures some { 1 ≤ result }
+    {
+        let (once, each) = match self {
+            Workload::Loop => (2, 2),
+            Workload::Sum => (5, 3 + 4 * 65_536),
+            Workload::Store => (5, 3 + 3 * 8_192),
+            Workload::Near | Workload::Far => (2, 3),
+        };
+        rounds.saturating_mul(each).saturating_add(once)
+    }
+}
