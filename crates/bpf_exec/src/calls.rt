@@ -1,32 +1,17 @@
 //! Calls and returns.
-ghost use Rattle.std.specs.Prelude.{◌≡◌, ◌≤◌};
-ghost use Rattle.bpf_model.specs.Machine.{frame_pointer};
+ghost use Rattle.std.specs.Prelude.{◌≡◌};
 ghost use Rattle.bpf_model.specs.Step.{call, effect, return_to};
 ghost use Rattle.confined_view.specs.Touched.{Touched};
 ghost use Rattle.bpf_exec.specs.Seen.{machine_of, effect_of};
 
-use crate::processor::{Next, Processor, SAVED_FRAMES};
+use crate::processor::{Next, Processor, SAVED_FRAMES, pointer_of};
 use bpf_isa::{End, Insn};
 use bpf_model::SavedFrame;
 use confined_view::View;
 
-// The address of the end of the stack, where the first frame begins.
-const STACK_END: u64 = 0x1_0000_0000_1000;
-
-// How many bytes of the stack a frame has.
-const FRAME_LEN: u64 = 512;
-
-/// The frame pointer of the frame of this number, from 0 to 7.
-fn pointer_of(frame: usize) -> u64
-    requires { frame ≤ 7 }
-    ensures { result ≡ frame_pointer frame }
-{
-    STACK_END - FRAME_LEN * frame as u64
-}
-
 impl Processor {
     /// The helper of number 1: the length of a range.
-    #[tactic(auto, using(crate::proofs::Windows::helper_seen))]
+    #[inline(always)]
     pub fn call_helper(&mut self, view: &View) -> Next
         ensures { effect Insn.CallHelper (machine_of self.old view.now) ≡ effect_of result self.new view.now }
     {

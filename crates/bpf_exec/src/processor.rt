@@ -1,5 +1,6 @@
 //! The state of a program between two instructions, beside the bytes that it may touch.
 ghost use Rattle.std.specs.Prelude.{◌≡◌, ◌<◌, ◌≤◌};
+ghost use Rattle.bpf_model.specs.Machine.{frame_pointer};
 ghost use Rattle.bpf_model.specs.Value.{unsigned};
 
 use bpf_isa::{End, Reg};
@@ -7,6 +8,12 @@ use bpf_model::SavedFrame;
 
 /// How many frames can be saved.
 pub(crate) const SAVED_FRAMES: usize = 7;
+
+// The address of the end of the stack, which is the frame pointer of the first frame.
+const STACK_END: u64 = 0x1_0000_0000_1000;
+
+// How many bytes of the stack a frame has.
+const FRAME_LEN: u64 = 512;
 
 /// What an instruction leads to, before the next place is looked at.
 #[derive(Clone, Copy, Debug)]
@@ -50,7 +57,7 @@ impl Processor {
             return_place: 0,
         };
         Processor {
-            registers: [0, p1, p2, ranges, 0, 0, 0, 0, 0, 0, 0x1_0000_0000_1000],
+            registers: [0, p1, p2, ranges, 0, 0, 0, 0, 0, 0, STACK_END],
             frames: [saved; SAVED_FRAMES],
             free: SAVED_FRAMES,
             place: 0,
@@ -104,4 +111,12 @@ pub(crate) fn operand(imm: i32) -> u64
     ensures { result ≡ unsigned 64 imm }
 {
     i64::from(imm).cast_unsigned()
+}
+
+/// The frame pointer of the frame of this number, from 0 to 7.
+pub(crate) fn pointer_of(frame: usize) -> u64
+    requires { frame ≤ 7 }
+    ensures { result ≡ frame_pointer frame }
+{
+    STACK_END - FRAME_LEN * frame as u64
 }

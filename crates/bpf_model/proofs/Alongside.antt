@@ -1,19 +1,18 @@
 -- Two machines that differ in their ranges and in their memories alone, where the ranges are of the same lengths and
 -- hold the same bytes: each step does the same to both, and leaves all bytes outside the ranges.
-use Rattle.std.proofs.Common.{◌≡◌, ◌≢◌, ℕ, zero, suc, ◌<◌, ◌≤◌, ◌*◌, ◌+◌, ◌-◌, ◌^◌, ◌==◌, Bool, true, false, ◌&&◌, ℤ, pos, negsuc, ◌+ℤ◌, List, [], ◌∷◌, ◌++◌, take, drop, length, slice_index, Option, Some, None, refl, sym, ap, subst, ◌∙◌, arith, eqb-true, eq-eqb, inl, inr, ◌⊎◌}
+use Rattle.std.proofs.Common.{◌≡◌, ℕ, zero, suc, ◌<◌, ◌≤◌, ◌*◌, ◌+◌, ◌-◌, ◌^◌, Bool, true, false, ℤ, pos, ◌+ℤ◌, List, [], ◌∷◌, ◌++◌, take, drop, length, slice_index, Option, Some, None, refl, sym, ap, subst, ◌∙◌, arith, inl, inr}
 use Rattle.std.proofs.Math.ListN.{get_or-map}
 use Rattle.std.specs.Int.{bytes_low_first}
-use Rattle.std.specs.Prelude.{nat_lt, nat_le, if◌then◌else◌, slice_index_or, option_map, option_and_then, unwrap_or, map, slice_get}
+use Rattle.std.specs.Prelude.{nat_lt, if◌then◌else◌, option_map, option_and_then, unwrap_or, slice_get}
 use Rattle.std.specs.Option.{option_map_or}
 use Rattle.byteorder.specs.Endian.{little_number, little_bytes}
 use Rattle.cp_base.specs.declared.lists.MemRange.{MemRange}
 use Rattle.bpf_isa.specs.Size.{bytes_of}
 use Rattle.bpf_isa.specs.declared.end.End.{End}
-use Rattle.bpf_isa.specs.declared.end.End.TheVariants.{Exit, BadAccess, BadJump, CallDepth, BudgetSpent}
+use Rattle.bpf_isa.specs.declared.end.End.TheVariants.{Exit, BadAccess, BadJump, CallDepth}
 use Rattle.bpf_isa.specs.declared.insn.Insn.{Insn}
 use Rattle.bpf_isa.specs.declared.insn.Insn.TheVariants as insn
 use Rattle.bpf_isa.specs.declared.operand.Size.{Size}
-use Rattle.bpf_isa.specs.declared.operand.Size.TheVariants as size
 use Rattle.bpf_isa.specs.declared.operation.AluOp.TheVariants as alu
 use Rattle.bpf_isa.specs.declared.operation.AtomicOp.{AtomicOp}
 use Rattle.bpf_isa.specs.declared.operation.AtomicOp.TheVariants as atomic
@@ -21,9 +20,9 @@ use Rattle.bpf_isa.specs.declared.operation.SwapOp.TheVariants as swap
 use Rattle.bpf_model.specs.declared.frames.SavedFrame.{SavedFrame}
 use Rattle.bpf_model.specs.Address.{Place, InRange, InStack, Nowhere, resolve}
 use Rattle.bpf_model.specs.Machine.{Machine, register, with_register, frame_pointer, deepest_frame}
-use Rattle.bpf_model.specs.Memory.{Memory, bytes_from, with_bytes, range_at, lengths_of, Covers}
+use Rattle.bpf_model.specs.Memory.{Memory, with_bytes, range_at, lengths_of, Covers}
 use Rattle.bpf_model.specs.Outcome.{Outcome, outcome_from, outcome_after}
-use Rattle.bpf_model.specs.Step.{Effect, Goes, Ends, Program, Step, Continues, Stops, next, jump, width_of, arithmetic, branch, address, place_of, bytes_at, patched_at, loaded, stored, accessed, load, store, atomic_access, length_of_range, call, return_to, effect, start_at, settled, step}
+use Rattle.bpf_model.specs.Step.{Effect, Goes, Ends, Program, Step, Continues, Stops, next, jump, width_of, address, bytes_at, patched_at, loaded, stored, accessed, load, store, atomic_access, length_of_range, call, return_to, effect, start_at, settled, step}
 use Rattle.bpf_model.specs.Value.{value_of, compares, swapped, stored_by, sign_extended, unsigned}
 use Rattle.bpf_model.proofs.Writing.{written-cases, written-inside, written-outside, bytes_from-same, resolve_from-inside}
 

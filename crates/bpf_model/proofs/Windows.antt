@@ -1,15 +1,14 @@
 -- The laws of runs: a run is confined to its ranges, and depends on nothing but their bytes.
-use Rattle.std.proofs.Common.{◌≡◌, ◌≢◌, ℕ, zero, suc, ◌<◌, ◌≤◌, ◌*◌, ◌+◌, ◌-◌, List, [], ◌∷◌, length, slice_index, refl, sym, ap, subst, ◌∙◌, arith, inl, inr, ◌⊎◌}
-use Rattle.std.proofs.lemmas.List.{get_or-map}
+use Rattle.std.proofs.Common.{◌≡◌, ℕ, zero, suc, ◌<◌, ◌+◌, List, [], ◌∷◌, length, slice_index, refl, sym, ap, subst, ◌∙◌, arith, inl, inr}
 use Rattle.std.proofs.lemmas.Bool.{cases_lt}
-use Rattle.std.specs.Prelude.{map, slice_index_or, replicate, AllPairs}
+use Rattle.std.specs.Prelude.{map, slice_index_or, replicate}
 use Rattle.cp_base.specs.declared.lists.MemRange.{MemRange}
 use Rattle.bpf_model.specs.Address.{stack_len}
 use Rattle.bpf_model.specs.Machine.{Machine, entry_machine, frame_pointer}
-use Rattle.bpf_model.specs.Memory.{Memory, bytes_from, range_at, lengths_of, windows_of, LiesIn, Covers, AreApart}
-use Rattle.bpf_model.specs.Outcome.{Outcome, outcome, outcome_from}
+use Rattle.bpf_model.specs.Memory.{Memory, bytes_from, range_at, lengths_of, windows_of, Covers, AreApart}
+use Rattle.bpf_model.specs.Outcome.{outcome, outcome_from}
 use Rattle.bpf_model.specs.Step.{Program}
-use Rattle.bpf_model.proofs.Alongside.{range_at-len, Alike, Agree, OutcomeAlong, put, run-along}
+use Rattle.bpf_model.proofs.Alongside.{range_at-len, Alike, Agree, OutcomeAlong, run-along}
 use Rattle.bpf_model.proofs.Writing.{length-bytes_from, bytes_from-at, bytes_from-same}
 
 -- ---- one list of ranges

@@ -1,8 +1,8 @@
 -- What a write leaves in memory, and where the bytes of an access lie.
-use Rattle.std.proofs.Common.{◌≡◌, ◌≢◌, ℕ, zero, suc, ◌<◌, ◌≤◌, ◌*◌, ◌+◌, ◌-◌, ◌^◌, ◌==◌, Bool, true, false, ◌&&◌, List, [], ◌∷◌, length, slice_index, refl, sym, ap, ◌∙◌, arith, eqb-true, eq-eqb, inl, inr, ◌⊎◌}
+use Rattle.std.proofs.Common.{◌≡◌, ℕ, zero, suc, ◌<◌, ◌≤◌, ◌+◌, ◌-◌, ◌==◌, Bool, true, false, ◌&&◌, List, [], ◌∷◌, length, slice_index, refl, sym, ap, ◌∙◌, arith, eqb-true, eq-eqb, inl, inr, ◌⊎◌}
 use Rattle.std.proofs.lemmas.Bool.{ltb-true, lt-ltb, leb-true, le-leb, and_parts, and_from, true≢false}
-use Rattle.std.specs.Prelude.{nat_lt, nat_le, if◌then◌else◌, slice_index_or}
-use Rattle.bpf_model.specs.Address.{Place, InRange, InStack, Nowhere, resolve, resolve_from, is_within, range_start, stack_start, stack_len}
+use Rattle.std.specs.Prelude.{nat_lt, nat_le, if◌then◌else◌}
+use Rattle.bpf_model.specs.Address.{InRange, InStack, Nowhere, resolve_from, is_within, range_start, stack_start, stack_len}
 use Rattle.bpf_model.specs.Memory.{Memory, bytes_from, with_bytes}
 
 -- whether a byte is one of those that a write replaces

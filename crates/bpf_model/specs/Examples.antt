@@ -31,6 +31,20 @@ jump_into_a_wide_load = 0x05 ∷ 0 ∷ 1 ∷ 0 ∷ 0 ∷ 0 ∷ 0 ∷ 0 ∷ 0x18 
 abbrev pub calls_itself : List ℕ
 calls_itself = 0x85 ∷ 0x10 ∷ 0 ∷ 0 ∷ 0xff ∷ 0xff ∷ 0xff ∷ 0xff ∷ []
 
+-- jeq64 r1 0 2, sub64 r1 1, callp -3, exit: as many frames below the first as R1 says
+abbrev pub calls_down : List ℕ
+calls_down = 0x15 ∷ 0x01 ∷ 0x02 ∷ 0 ∷ 0 ∷ 0 ∷ 0 ∷ 0 ∷ 0x17 ∷ 0x01 ∷ 0 ∷ 0 ∷ 0x01 ∷ 0 ∷ 0 ∷ 0 ∷ 0x85 ∷ 0x10 ∷ 0 ∷ 0 ∷ 0xfd ∷ 0xff ∷ 0xff ∷ 0xff
+    ∷ 0x95 ∷ 0 ∷ 0 ∷ 0 ∷ 0 ∷ 0 ∷ 0 ∷ 0 ∷ []
+
+-- std r1 0 9, mov64 r2 5, afaddd r1 0 r2, mov64 r0 r2, exit, behind the load of r1
+abbrev pub fetch_and_add : List ℕ
+fetch_and_add = first_range_in_r1 ++ (0x7a ∷ 0x01 ∷ 0 ∷ 0 ∷ 0x09 ∷ 0 ∷ 0 ∷ 0 ∷ 0xb7 ∷ 0x02 ∷ 0 ∷ 0 ∷ 0x05 ∷ 0 ∷ 0 ∷ 0 ∷ 0xdb ∷ 0x21 ∷ 0 ∷ 0 ∷ 0x01 ∷ 0 ∷ 0 ∷ 0
+    ∷ 0xbf ∷ 0x20 ∷ 0 ∷ 0 ∷ 0 ∷ 0 ∷ 0 ∷ 0 ∷ 0x95 ∷ 0 ∷ 0 ∷ 0 ∷ 0 ∷ 0 ∷ 0 ∷ 0 ∷ [])
+
+-- call 1, exit: the length of the range of index R1
+abbrev pub helper : List ℕ
+helper = 0x85 ∷ 0 ∷ 0 ∷ 0 ∷ 0x01 ∷ 0 ∷ 0 ∷ 0 ∷ 0x95 ∷ 0 ∷ 0 ∷ 0 ∷ 0 ∷ 0 ∷ 0 ∷ 0 ∷ []
+
 -- a range of 8 bytes of namespace 1, from byte 16 on
 abbrev pub eight_bytes : List MemRange
 eight_bytes = record { ns = 1; at = 16; len = 8 } ∷ []
@@ -39,6 +53,10 @@ eight_bytes = record { ns = 1; at = 16; len = 8 } ∷ []
 abbrev pub zero_memory : Memory
 zero_memory ns offset = 0
 
--- the outcome of code on those 8 bytes, within a budget
+-- the outcome of code on those 8 bytes, with a first parameter and a budget
+abbrev pub run_with : List ℕ → ℕ → ℕ → Outcome
+run_with code p1 budget = outcome (instruction_at code) eight_bytes zero_memory p1 0 budget
+
+-- the same with the parameter 0
 abbrev pub run_of : List ℕ → ℕ → Outcome
-run_of code budget = outcome (instruction_at code) eight_bytes zero_memory 0 0 budget
+run_of code budget = run_with code 0 budget

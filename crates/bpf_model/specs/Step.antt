@@ -30,11 +30,11 @@ pub data Effect : Type 0 where
 
 -- ---- going on
 
--- at the place behind an instruction of one unit
+-- an instruction of one unit goes on at the place behind it
 abbrev pub next : Machine → Effect
 next m = Goes m (pos (m.counter + 1))
 
--- at the place behind it and so many units further
+-- a jump goes on so many units further than the place behind it (RFC 9669, section 4.3)
 abbrev pub jump : Machine → ℤ → Effect
 jump m distance = Goes m (pos (m.counter + 1) +ℤ distance)
 
@@ -42,11 +42,12 @@ jump m distance = Goes m (pos (m.counter + 1) +ℤ distance)
 abbrev pub width_of : Bool → ℕ
 width_of wide = if wide then 64 else 32
 
--- with the value of an arithmetic operation on the destination and an operand
+-- arithmetic puts the value of an operation on the destination and an operand into the destination (RFC 9669,
+-- section 4.1)
 abbrev pub arithmetic : Machine → AluOp → Bool → ℕ → ℕ → Effect
 arithmetic m op wide dst operand = next (with_register m dst (value_of op (width_of wide) (register m dst) operand))
 
--- at the target of a conditional jump where the comparison holds
+-- a conditional jump is taken where the comparison of the destination and an operand holds (RFC 9669, section 4.3)
 abbrev pub branch : Machine → JumpOp → Bool → ℕ → ℕ → ℤ → Effect
 branch m op wide dst operand offset = if compares op (width_of wide) (register m dst) operand then jump m offset else next m
 
@@ -84,15 +85,16 @@ stored m at size value = patched_at m (place_of m at size) (little_bytes (bytes_
 abbrev pub accessed : Machine → Option Effect → Effect
 accessed m effect = unwrap_or effect (Ends (BadAccess m.counter))
 
--- a load, of whose number some function is put into the destination
+-- a load puts a function of the number that is read into the destination (RFC 9669, sections 5.1 and 5.2)
 abbrev pub load : Machine → ℕ → Size → ℕ → (ℕ → ℕ) → Effect
 load m at size dst f = accessed m (option_map (λ n. next (with_register m dst (f n))) (loaded m at size))
 
--- a store
+-- a store puts the low bytes of a value into memory (RFC 9669, section 5.1)
 abbrev pub store : Machine → ℕ → Size → ℕ → Effect
 store m at size value = accessed m (option_map next (stored m at size value))
 
--- an atomic operation, after which the machine is changed for the old value
+-- an atomic operation reads the old value, stores the new one and then may put the old one into a register (RFC 9669,
+-- section 5.3)
 abbrev pub atomic_access : Machine → AtomicOp → ℕ → Size → ℕ → (ℕ → Machine → Machine) → Effect
 atomic_access m op at size source fetch =
     accessed m (option_and_then (λ old. option_map (λ m'. next (fetch old m')) (stored m at size (stored_by op size old source (register m 0)))) (loaded m at size))
@@ -103,14 +105,15 @@ atomic_access m op at size source fetch =
 abbrev pub length_of_range : Machine → ℕ → ℕ
 length_of_range m index = unwrap_or (slice_get (lengths_of m.ranges) index) (2 ^ 64 - 1)
 
--- a local call: R6 to R10 and the place behind the call are saved
+-- a local call saves R6 to R10 and the place behind it, and goes on in the next frame (RFC 9669, section 4.3.2)
 abbrev pub call : Machine → ℤ → Effect
 call m distance =
     if nat_lt (length m.frames) deepest_frame then jump (record (with_register m 10 (frame_pointer (length m.frames + 1))) {
       frames = record { registers = drop 6 m.registers; return_place = m.counter + 1 } ∷ m.frames;
     }) distance else Ends (CallDepth m.counter)
 
--- a return to the latest saved frame, with its registers, or from the program, with R0
+-- an exit gives R6 to R10 of the latest saved frame back and goes on at its place; in the first frame it ends the
+-- execution with R0
 abbrev pub return_to : Machine → List SavedFrame → Effect
 return_to m [] = Ends (Exit (register m 0))
 return_to m (frame ∷ frames) = Goes (record m { registers = take 6 m.registers ++ frame.registers; frames = frames }) (pos frame.return_place)

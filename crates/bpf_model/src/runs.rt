@@ -1,6 +1,6 @@
 //! Worked examples of runs.
 ghost use Rattle.std.specs.Prelude.{◌≡◌};
-ghost use Rattle.bpf_model.specs.Examples.{run_of, exit_with_7, store_and_load, store_past_the_end, jump_into_a_wide_load, calls_itself};
+ghost use Rattle.bpf_model.specs.Examples.{run_of, run_with, exit_with_7, store_and_load, store_past_the_end, jump_into_a_wide_load, calls_itself, calls_down, fetch_and_add, helper};
 
 use bpf_isa::End;
 
@@ -17,4 +17,11 @@ pub fn example_runs()
     ensures into_a_wide_load { (run_of jump_into_a_wide_load 100).ending ≡ End.BadJump 0 }
     ensures eighth_frame { (run_of calls_itself 7).ending ≡ End.BudgetSpent }
     ensures ninth_frame { (run_of calls_itself 8).ending ≡ End.CallDepth 0 }
+    ensures eight_frames_return { (run_with calls_down 7 30).ending ≡ End.Exit 0 }
+    ensures eight_frames_within_29 { (run_with calls_down 7 29).ending ≡ End.BudgetSpent }
+    ensures nine_frames { (run_with calls_down 8 100).ending ≡ End.CallDepth 2 }
+    ensures old_value_is_fetched { (run_of fetch_and_add 10).ending ≡ End.Exit 9 }
+    ensures sum_is_stored { (run_of fetch_and_add 10).memory 1 16 ≡ 14 }
+    ensures length_of_range { (run_with helper 0 2).ending ≡ End.Exit 8 }
+    ensures no_such_range { (run_with helper 1 2).ending ≡ End.Exit 0xffff_ffff_ffff_ffff }
 {}
