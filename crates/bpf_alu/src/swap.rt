@@ -26,9 +26,9 @@ fn cut(bits: Width, a: u64) -> u64
     ensures { result ≡ a % 2 ^ bits_of bits }
 {
     match bits {
-        Width::W16 => u64::from(low16(a)),
-        Width::W32 => u64::from(low32(a)),
-        Width::W64 => a,
+        Width::Bits16 => u64::from(low16(a)),
+        Width::Bits32 => u64::from(low32(a)),
+        Width::Bits64 => a,
     }
 }
 
@@ -38,8 +38,8 @@ fn reversed(bits: Width, a: u64) -> u64
     ensures upper_bits_zero { result < 2 ^ bits_of bits }
 {
     match bits {
-        Width::W16 => u64::from(low16(a).swap_bytes()),
-        Width::W32 => u64::from(low32(a).swap_bytes()),
-        Width::W64 => a.swap_bytes(),
+        Width::Bits16 => u64::from(low16(a).swap_bytes()),
+        Width::Bits32 => u64::from(low32(a).swap_bytes()),
+        Width::Bits64 => a.swap_bytes(),
     }
 }

@@ -202,14 +202,14 @@ helpers = record {
 -- ---- names of bits
 
 bits_again : (w : Width) → named swap_imms (bits_of w) ≡ Some w
-bits_again width.W16 = refl
-bits_again width.W32 = refl
-bits_again width.W64 = refl
+bits_again width.Bits16 = refl
+bits_again width.Bits32 = refl
+bits_again width.Bits64 = refl
 
 pub bits_small : (w : Width) → bits_of w < 2 ^ 64
-bits_small width.W16 = omega arith
-bits_small width.W32 = omega arith
-bits_small width.W64 = omega arith
+bits_small width.Bits16 = omega arith
+bits_small width.Bits32 = omega arith
+bits_small width.Bits64 = omega arith
 
 pub widths : Spelling (λ w. operand_text (Number (bits_of w))) bits_named (λ w. Unit {0})
 widths = record {

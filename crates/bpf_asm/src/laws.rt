@@ -30,7 +30,7 @@ pub fn lines_by_example()
     ensures store { line_of (Insn.StoreImm Size.D 10 (negsuc 7) (pos 0)) ≡ codes "std r10 -8 0" }
     ensures branch { line_of (Insn.BranchImm JumpOp.Jeq false 0 (negsuc 1) (negsuc 4)) ≡ codes "jeq32 r0 -5 -2" }
     ensures fetch { line_of (Insn.AtomicFetch AtomicOp.Add Size.D 1 2 (pos 0)) ≡ codes "afaddd r1 0 r2" }
-    ensures byte_swap { line_of (Insn.ToBig Width.W16 3) ≡ codes "be r3 16" }
+    ensures byte_swap { line_of (Insn.ToBig Width.Bits16 3) ≡ codes "be r3 16" }
     ensures helper { line_of Insn.CallHelper ≡ codes "call 1" }
     ensures exit { line_of Insn.Exit ≡ codes "exit" }
 {}

@@ -93,9 +93,9 @@ pub fn swap_bits(text: &[u8]) -> Option<Width>
     ensures { result ≡ spec.bits_named text.now }
 {
     match number(text)? {
-        16 => Some(Width::W16),
-        32 => Some(Width::W32),
-        64 => Some(Width::W64),
+        16 => Some(Width::Bits16),
+        32 => Some(Width::Bits32),
+        64 => Some(Width::Bits64),
         _ => None,
     }
 }

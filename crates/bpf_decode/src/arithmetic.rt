@@ -91,9 +91,9 @@ fn swap_bits(imm: u32) -> Option<Width>
     ensures { result ≡ named form.swap_imms imm }
 {
     match imm {
-        16 => Some(Width::W16),
-        32 => Some(Width::W32),
-        64 => Some(Width::W64),
+        16 => Some(Width::Bits16),
+        32 => Some(Width::Bits32),
+        64 => Some(Width::Bits64),
         _ => None,
     }
 }

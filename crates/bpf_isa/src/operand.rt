@@ -77,11 +77,11 @@ impl Size {
 #[derive(Clone, Copy, Debug, PartialEq, Eq)]
 pub enum Width {
     /// 16 bits.
-    W16,
+    Bits16,
     /// 32 bits.
-    W32,
+    Bits32,
     /// 64 bits.
-    W64,
+    Bits64,
 }
 
 impl Width {
@@ -93,9 +93,9 @@ impl Width {
         ensures { result ≡ bits_of self }
     {
         match self {
-            Width::W16 => 16,
-            Width::W32 => 32,
-            Width::W64 => 64,
+            Width::Bits16 => 16,
+            Width::Bits32 => 32,
+            Width::Bits64 => 64,
         }
     }
 }

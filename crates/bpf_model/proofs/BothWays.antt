@@ -91,9 +91,9 @@ alu_offset-below alu.Movsx32 = omega arith
 alu_offset-below _ = omega arith
 
 bits_of-below : (w : Width) → bits_of w < 2 ^ 32
-bits_of-below width.W16 = omega arith
-bits_of-below width.W32 = omega arith
-bits_of-below width.W64 = omega arith
+bits_of-below width.Bits16 = omega arith
+bits_of-below width.Bits32 = omega arith
+bits_of-below width.Bits64 = omega arith
 
 atomic_code-below : (op : AtomicOp) → atomic_code op + 1 < 2 ^ 32
 atomic_code-below atomic.Add = omega arith

@@ -66,15 +66,15 @@ movsx_64 alu.Movsx8 dst src next a d s = rw (d, s) refl
 movsx_64 _ dst src next a d s = first_of (simp (d, s), cc)
 
 pub to_little : (bits : Width) (dst : ℕ) (next : Option Fields) → is_writable dst ≡ true → insn_of (read_as 0xd4 dst 0 0 (bits_of bits)) next ≡ Some (insn.ToLittle bits dst)
-to_little width.W16 dst next d = rw (d) refl
+to_little width.Bits16 dst next d = rw (d) refl
 to_little _ dst next d = rw (d) refl
 
 pub to_big : (bits : Width) (dst : ℕ) (next : Option Fields) → is_writable dst ≡ true → insn_of (read_as 0xdc dst 0 0 (bits_of bits)) next ≡ Some (insn.ToBig bits dst)
-to_big width.W16 dst next d = rw (d) refl
+to_big width.Bits16 dst next d = rw (d) refl
 to_big _ dst next d = rw (d) refl
 
 pub swap : (bits : Width) (dst : ℕ) (next : Option Fields) → is_writable dst ≡ true → insn_of (read_as 0xd7 dst 0 0 (bits_of bits)) next ≡ Some (insn.Swap bits dst)
-swap width.W16 dst next d = rw (d) refl
+swap width.Bits16 dst next d = rw (d) refl
 swap _ dst next d = rw (d) refl
 
 pub ja : (offset : ℤ) (next : Option Fields) → FitsSigned w16 offset → insn_of (read_as 0x05 0 0 (offset_bits offset) 0) next ≡ Some (insn.Jump offset)

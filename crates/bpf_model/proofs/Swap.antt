@@ -6,7 +6,7 @@ use Rattle.std.proofs.Math.Arith.{mod-mul}
 use Rattle.std.proofs.lemmas.Nat.{mul-add-lt, div-mul-add, mod-mul-add}
 use Rattle.bpf_isa.specs.Width.{bits_of}
 use Rattle.bpf_isa.specs.declared.operand.Width.{Width}
-use Rattle.bpf_isa.specs.declared.operand.Width.TheVariants.{W16, W32, W64}
+use Rattle.bpf_isa.specs.declared.operand.Width.TheVariants.{Bits16, Bits32, Bits64}
 use Rattle.bpf_isa.specs.declared.operation.SwapOp.{SwapOp}
 use Rattle.bpf_isa.specs.declared.operation.SwapOp.TheVariants as swap
 use Rattle.bpf_model.specs.Value.{bytes_reversed, swapped}
@@ -49,17 +49,17 @@ reversed_twice (suc k) n =
     ∙ sym (ap (λ (x : ℕ). n % x) (pow-succ' 256 k) ∙ mod-mul n {m = 256} {c = 256 ^ k} (omega arith) (power_pos k))
 
 pub swap_below : (op : SwapOp) (bits : Width) (a : ℕ) → swapped op bits a < 2 ^ bits_of bits
-swap_below swap.ToLittle W16 a = omega arith
-swap_below swap.ToLittle W32 a = omega arith
-swap_below swap.ToLittle W64 a = omega arith
-swap_below swap.ToBig W16 a = reversed_below 2 a
-swap_below swap.ToBig W32 a = reversed_below 4 a
-swap_below swap.ToBig W64 a = reversed_below 8 a
-swap_below swap.Swap W16 a = reversed_below 2 a
-swap_below swap.Swap W32 a = reversed_below 4 a
-swap_below swap.Swap W64 a = reversed_below 8 a
+swap_below swap.ToLittle Bits16 a = omega arith
+swap_below swap.ToLittle Bits32 a = omega arith
+swap_below swap.ToLittle Bits64 a = omega arith
+swap_below swap.ToBig Bits16 a = reversed_below 2 a
+swap_below swap.ToBig Bits32 a = reversed_below 4 a
+swap_below swap.ToBig Bits64 a = reversed_below 8 a
+swap_below swap.Swap Bits16 a = reversed_below 2 a
+swap_below swap.Swap Bits32 a = reversed_below 4 a
+swap_below swap.Swap Bits64 a = reversed_below 8 a
 
 pub swapped_twice : (bits : Width) (a : ℕ) → swapped swap.Swap bits (swapped swap.Swap bits a) ≡ swapped swap.ToLittle bits a
-swapped_twice W16 a = reversed_twice 2 a
-swapped_twice W32 a = reversed_twice 4 a
-swapped_twice W64 a = reversed_twice 8 a
+swapped_twice Bits16 a = reversed_twice 2 a
+swapped_twice Bits32 a = reversed_twice 4 a
+swapped_twice Bits64 a = reversed_twice 8 a

@@ -123,7 +123,7 @@ move_offsets_64 = (8, alu.Movsx8) ∷ (16, alu.Movsx16) ∷ (32, alu.Movsx32) �
 
 -- widths of a byte swap, by the immediate (RFC 9669, section 4.2)
 abbrev pub swap_imms : List (ℕ × Width)
-swap_imms = (16, width.W16) ∷ (32, width.W32) ∷ (64, width.W64) ∷ []
+swap_imms = (16, width.Bits16) ∷ (32, width.Bits32) ∷ (64, width.Bits64) ∷ []
 
 -- conditional jumps, by their code (RFC 9669, section 4.3)
 abbrev pub jump_codes : List (ℕ × JumpOp)

@@ -27,7 +27,7 @@ pub fn example_forms()
     ensures signed_division { form (0x37 ∷ 0 ∷ 1 ∷ 0 ∷ 0xff ∷ 0xff ∷ 0xff ∷ 0xff ∷ []) 0
         ≡ Some (Insn.DivImm AluOp.Sdiv true 0 (negsuc 0)) }
     // be r0 16
-    ensures byte_swap { form (0xdc ∷ 0 ∷ 0 ∷ 0 ∷ 0x10 ∷ 0 ∷ 0 ∷ 0 ∷ []) 0 ≡ Some (Insn.ToBig Width.W16 0) }
+    ensures byte_swap { form (0xdc ∷ 0 ∷ 0 ∷ 0 ∷ 0x10 ∷ 0 ∷ 0 ∷ 0 ∷ []) 0 ≡ Some (Insn.ToBig Width.Bits16 0) }
     // lddw r1 4294967296
     ensures wide_load { form (0x18 ∷ 1 ∷ 0 ∷ 0 ∷ 0 ∷ 0 ∷ 0 ∷ 0 ∷ 0 ∷ 0 ∷ 0 ∷ 0 ∷ 1 ∷ 0 ∷ 0 ∷ 0 ∷ []) 0
         ≡ Some (Insn.LoadImm 1 (2 ^ 32)) }

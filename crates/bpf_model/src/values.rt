@@ -29,8 +29,8 @@ pub fn values_by_example()
     ensures masked_shift { value_of AluOp.Lsh 64 1 0x40 ≡ 1 }
     ensures negation { value_of AluOp.Neg 32 1 0 ≡ 0xffff_ffff }
     ensures sign_extension { value_of AluOp.Movsx8 32 0 0x80 ≡ 0xffff_ff80 }
-    ensures little_end { swapped SwapOp.ToLittle Width.W16 0x1122_3344_5566_7788 ≡ 0x7788 }
-    ensures big_end { swapped SwapOp.ToBig Width.W32 0x1122_3344_5566_7788 ≡ 0x8877_6655 }
+    ensures little_end { swapped SwapOp.ToLittle Width.Bits16 0x1122_3344_5566_7788 ≡ 0x7788 }
+    ensures big_end { swapped SwapOp.ToBig Width.Bits32 0x1122_3344_5566_7788 ≡ 0x8877_6655 }
     ensures signed_test { compares JumpOp.Jsgt 32 0x1_0000_0000 0xffff_ffff ≡ true }
     ensures bit_test { compares JumpOp.Jset 64 6 8 ≡ false }
     ensures low_r0 { stored_by AtomicOp.Cmpxchg Size.W 5 9 0xffff_ffff_0000_0005 ≡ 9 }

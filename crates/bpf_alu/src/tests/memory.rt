@@ -32,7 +32,7 @@ fn byte_swaps(rt: HostRuntime) {
     swaps(
         &rt,
         SwapOp::ToLittle,
-        Width::W16,
+        Width::Bits16,
         &[
             [0x1122_3344_5566_7788, 0x7788],
             [0xff, 0xff],
@@ -42,7 +42,7 @@ fn byte_swaps(rt: HostRuntime) {
     swaps(
         &rt,
         SwapOp::ToLittle,
-        Width::W32,
+        Width::Bits32,
         &[
             [0x1122_3344_5566_7788, 0x5566_7788],
             [0xff, 0xff],
@@ -52,7 +52,7 @@ fn byte_swaps(rt: HostRuntime) {
     swaps(
         &rt,
         SwapOp::ToLittle,
-        Width::W64,
+        Width::Bits64,
         &[
             [0x1122_3344_5566_7788, 0x1122_3344_5566_7788],
             [0xff, 0xff],
@@ -62,7 +62,7 @@ fn byte_swaps(rt: HostRuntime) {
     swaps(
         &rt,
         SwapOp::ToBig,
-        Width::W16,
+        Width::Bits16,
         &[
             [0x1122_3344_5566_7788, 0x8877],
             [0xff, 0xff00],
@@ -72,7 +72,7 @@ fn byte_swaps(rt: HostRuntime) {
     swaps(
         &rt,
         SwapOp::ToBig,
-        Width::W32,
+        Width::Bits32,
         &[
             [0x1122_3344_5566_7788, 0x8877_6655],
             [0xff, 0xff00_0000],
@@ -82,7 +82,7 @@ fn byte_swaps(rt: HostRuntime) {
     swaps(
         &rt,
         SwapOp::ToBig,
-        Width::W64,
+        Width::Bits64,
         &[
             [0x1122_3344_5566_7788, 0x8877_6655_4433_2211],
             [0xff, 0xff00_0000_0000_0000],
@@ -92,7 +92,7 @@ fn byte_swaps(rt: HostRuntime) {
     swaps(
         &rt,
         SwapOp::Swap,
-        Width::W16,
+        Width::Bits16,
         &[
             [0x1122_3344_5566_7788, 0x8877],
             [0xff, 0xff00],
@@ -102,7 +102,7 @@ fn byte_swaps(rt: HostRuntime) {
     swaps(
         &rt,
         SwapOp::Swap,
-        Width::W32,
+        Width::Bits32,
         &[
             [0x1122_3344_5566_7788, 0x8877_6655],
             [0xff, 0xff00_0000],
@@ -112,7 +112,7 @@ fn byte_swaps(rt: HostRuntime) {
     swaps(
         &rt,
         SwapOp::Swap,
-        Width::W64,
+        Width::Bits64,
         &[
             [0x1122_3344_5566_7788, 0x8877_6655_4433_2211],
             [0xff, 0xff00_0000_0000_0000],

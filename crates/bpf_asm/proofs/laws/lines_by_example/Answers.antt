@@ -31,7 +31,7 @@ pub returns-clause-fetch : goal.returns-clause-fetch
 returns-clause-fetch c = sym (line_read (codes "afaddd r1 0 r2") (insn.AtomicFetch atomic.Add size.D 1 2 (pos 0)) refl).0
 
 pub returns-clause-byte_swap : goal.returns-clause-byte_swap
-returns-clause-byte_swap c = sym (line_read (codes "be r3 16") (insn.ToBig width.W16 3) refl).0
+returns-clause-byte_swap c = sym (line_read (codes "be r3 16") (insn.ToBig width.Bits16 3) refl).0
 
 pub returns-clause-helper : goal.returns-clause-helper
 returns-clause-helper c = sym (line_read (codes "call 1") (insn.CallHelper) refl).0
