@@ -1,6 +1,7 @@
 //! The workloads.
 ghost use Rattle.std.specs.Prelude.{◌≡◌, ◌-◌, ◌^◌, ◌≤◌, min};
 ghost use Rattle.bpf_bench.specs.Counts.{instructions_in_all};
+ghost use Rattle.bpf_bench.specs.Names.{named_by};
 
 /// What is executed. Each program does the same in every round, and there is at least one.
 #[derive(Clone, Copy, Debug, PartialEq, Eq)]
@@ -18,15 +19,22 @@ pub enum Workload {
 }
 
 impl Workload {
-    /// The workload of this name.
-    pub fn named(word: &str) -> Option<Workload> {
-        match word {
-            "loop" => Some(Workload::Loop),
-            "sum" => Some(Workload::Sum),
-            "store" => Some(Workload::Store),
-            "near" => Some(Workload::Near),
-            "far" => Some(Workload::Far),
-            _ => None,
+    /// The workload of this name. `None` where it is the name of none.
+    pub fn named(word: &str) -> Option<Workload>
+        ensures { result ≡ named_by word.now }
+    {
+        if word == "loop" {
+            Some(Workload::Loop)
+        } else if word == "sum" {
+            Some(Workload::Sum)
+        } else if word == "store" {
+            Some(Workload::Store)
+        } else if word == "near" {
+            Some(Workload::Near)
+        } else if word == "far" {
+            Some(Workload::Far)
+        } else {
+            None
         }
     }
 
