@@ -1,6 +1,6 @@
 // Printing: the line of each command, then the line of each show, each offered to the sink as one piece
 // from one line buffer that has room for the longest line.
-ghost use Rattle.std.specs.Prelude.{◌≡◌, ◌+◌, ◌<◌, ◌≤◌, ◌^◌, length, map, unwrap_or, OnOk, OnErr};
+ghost use Rattle.std.specs.Prelude.{◌≡◌, ◌≢◌, ◌+◌, ◌-◌, ◌<◌, ◌≤◌, ◌^◌, ◌⊎◌, All, length, map, slice_index, take, unwrap_or, OnOk, OnErr};
 ghost use Rattle.std.specs.List.{concat};
 ghost use Rattle.std.specs.Io.KnownBytes.{Appends};
 ghost use Rattle.cp_base.specs.Answer.{answer_of};
@@ -144,7 +144,9 @@ pub fn print<K: Sink>(sink: &mut K, finished: Finished, shows: &[Show]) -> Resul
 // How many bytes the first line of a text has, with its newline.
 fn first_line(text: &[u8]) -> usize
     requires { 0 < length text.now }
-    ensures { (0 < result) × (result ≤ length text.now) }
+    ensures within { (0 < result) × (result ≤ length text.now) }
+    ensures ended { (result ≡ length text.now) ⊎ (slice_index text.now (result - 1) ≡ 10) }
+    ensures first { All (λ byte. byte ≢ 10) (take (result - 1) text.now) }
 {
     match text.iter().position(|byte| *byte == b'\n') {
         Some(end) => end + 1,

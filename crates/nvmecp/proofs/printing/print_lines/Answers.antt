@@ -21,7 +21,7 @@ loop-written-preserved g c =
     let written : ℕ = c.loop-written.written in
     let before = c.loop-written.invariant in
     record {
-      within = omega (arith, c.loop-written-test.true, c.first_line.ensures.1, length-drop written text);
+      within = omega (arith, c.loop-written-test.true, c.first_line.ensures.within.1, length-drop written text);
       front = subst (Appends (held c.args.sink.now) (held c.write_all.new.sink)) (joined text written c.first_line.result)
           (Appends-trans _ _ _ _ _ before.front c.in_ok-write_all.ensures.all);
       later = omega (arith, before.later, c.write_all.ensures.later);
