@@ -46,10 +46,10 @@ FORMS = [
 
 def main():
     build()
-    empty = best_of(15, WORDS, b"nvmecp 1 block=512 depth=16 budget=1000\n", 0, b"")
+    empty = best_of(15, WORDS, b"nvmecp 1 block=512 depth=16 budget=1000\n", 0, keep=False)
     print(f"a header alone: {empty.seconds * 1e3:.2f} ms, taken off below; {empty.peak_kib / 1024:.1f} MiB")
     for name, script, sizes in FORMS:
-        rows = [(size, best_of(5, WORDS, script(size), 0)) for size in sizes]
+        rows = [(size, best_of(5, WORDS, script(size), 0, keep=False)) for size in sizes]
         print(f"{name:20} {'count':>7} {'ms':>9} {'us each':>8} {'ratio':>6} {'peak MiB':>9}")
         for size, run, seconds, ratio in doubled(rows, empty):
             print(f"{'':20} {size:7} {seconds * 1e3:9.2f} {seconds / size * 1e6:8.3f} {ratio:>6} {run.peak_kib / 1024:9.1f}")

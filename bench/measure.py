@@ -30,8 +30,10 @@ def build():
         sys.exit(done.stderr.decode())
 
 
-def run_once(words, data):
-    """One run on these bytes. Input and output lie in files, so that no pipe is measured."""
+def run_once(words, data, keep):
+    """One run on these bytes, whose text is kept or not. Input and output lie in files, so that no pipe is
+    measured. The peak memory is never below that of this program, which starts the other as a copy of itself;
+    so long texts are not kept where memory is measured."""
     with tempfile.TemporaryFile() as source, tempfile.TemporaryFile() as sink:
         source.write(data)
         source.seek(0)
@@ -41,13 +43,13 @@ def run_once(words, data):
         seconds = time.perf_counter() - began
         child.returncode = os.waitstatus_to_exitcode(state)
         sink.seek(0)
-        return Run(seconds, usage.ru_maxrss, child.returncode, sink.read())
+        return Run(seconds, usage.ru_maxrss, child.returncode, sink.read() if keep else b"")
 
 
-def best_of(times, words, data, status, text=None):
+def best_of(times, words, data, status, text=None, keep=True):
     """The fastest of some runs, each of which has to end with this status and, where one is given, with
     this text."""
-    runs = [run_once(words, data) for _ in range(times)]
+    runs = [run_once(words, data, keep) for _ in range(times)]
     for run in runs:
         if run.status != status or text not in (None, run.text):
             sys.exit(f"{' '.join(words)}: status {run.status}, {run.text[:80]!r}")
