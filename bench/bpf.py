@@ -1,29 +1,21 @@
 #!/usr/bin/env python3
 """Times the interpreter of programs from outside.
 
-Builds crates/bpf_bench with `rt run`, executes each of its programs a few times, and prints how many
-nanoseconds of processor time an instruction takes: of a counting loop, of a sum over the bytes of 64 KiB, of stores over
-64 KiB, and of a loop by jumps from end to end of a code of 1 KiB (near) and of 64 KiB (far). The last line
-is the ratio of the last two.
+Executes each program of crates/bpf_bench a few times, and prints how many nanoseconds of processor time an
+instruction takes: of a counting loop, of a sum over the bytes of 64 KiB, of stores over 64 KiB, and of a loop by
+jumps from end to end of a code of 1 KiB (near) and of 64 KiB (far). The last line is the ratio of the last two.
 """
 
-import pathlib
 import re
 import resource
 import subprocess
 import sys
 
-CRATE = pathlib.Path(__file__).resolve().parent.parent / "crates" / "bpf_bench"
-PROGRAM = CRATE / "out" / "bpf_bench"
+from measure import TOP, build
+
+PROGRAM = TOP / "out" / "bpf_bench"
 ROUNDS = {"loop": 20_000_000, "sum": 150, "store": 1_500, "near": 12_000_000, "far": 12_000_000}
 TRIES = 5
-
-
-def build():
-    """Proves and builds the program."""
-    built = subprocess.run(["rt", "run", "--", "loop", "1"], cwd=CRATE, capture_output=True, text=True)
-    if built.returncode != 0 or not PROGRAM.exists():
-        sys.exit(built.stdout + built.stderr)
 
 
 def seconds_used():
@@ -53,7 +45,7 @@ def least(rounds_of):
 
 
 def main():
-    build()
+    build("bpf_bench")
     short = least(lambda workload: 1)
     long = least(lambda workload: ROUNDS[workload])
     figures = {}

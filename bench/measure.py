@@ -8,9 +8,7 @@ import time
 from pathlib import Path
 
 TOP = Path(__file__).resolve().parent.parent
-# The first builds the program where it is not built; the second is the program itself, which is timed.
-STARTER = TOP / "nvmecp"
-PROGRAM = TOP / "crates" / "nvmecp" / "out" / "nvmecp"
+PROGRAM = TOP / "out" / "nvmecp"
 
 
 class Run:
@@ -23,11 +21,11 @@ class Run:
         self.text = text
 
 
-def build():
-    """Builds the program where it is not built."""
-    done = subprocess.run([STARTER, "help"], stdin=subprocess.DEVNULL, capture_output=True, check=False)
-    if done.returncode != 1:
-        sys.exit(done.stderr.decode())
+def build(program="nvmecp"):
+    """Builds a program where it is missing or older than its sources, so that no old one is ever timed."""
+    done = subprocess.run([TOP / "tools" / "renew.bash", program], check=False)
+    if done.returncode != 0:
+        sys.exit(done.returncode)
 
 
 def run_once(words, data, keep):

@@ -1,6 +1,6 @@
 //! Atomic operations.
 ghost use Rattle.std.specs.Prelude.{◌≡◌, ◌<◌, ◌^◌, ◌*◌, IsTrue};
-ghost use Rattle.bpf_isa.specs.Size.{bytes_of};
+ghost use Rattle.bpf_isa.specs.Size.{byte_count};
 ghost use Rattle.bpf_model.specs.Value.{stored_by, combined, is_atomic};
 
 use crate::low::low32;
@@ -14,9 +14,9 @@ use bpf_isa::{AtomicOp, Size};
 #[inline(always)]
 pub fn atomic_new(op: AtomicOp, size: Size, old: u64, source: u64, r0: u64) -> u64
     requires atomic_size { IsTrue (is_atomic size) }
-    requires old_fits { old < 2 ^ (8 * bytes_of size) }
+    requires old_fits { old < 2 ^ (8 * byte_count size) }
     ensures value { result ≡ stored_by op size old source r0 }
-    ensures fits { result < 2 ^ (8 * bytes_of size) }
+    ensures fits { result < 2 ^ (8 * byte_count size) }
 {
     match size {
         Size::D => combined64(op, old, source, r0),

@@ -15,8 +15,8 @@ use Rattle.bpf_model.specs.Walk.{units_of, stop_from, bad_place, IsWellFormed, i
 use Rattle.bpf_model.proofs.BothWays.{bytes_small, first_form-encoding, form-encoded, length-encoding}
 use Rattle.bpf_decode.specs.Slots.{slots_of}
 use Rattle.bpf_decode.proofs.Filling.{Filled, filled-start, filled-more, filled-end, filled-slots}
-use Rattle.bpf_asm.specs.Line.{line_of}
-use Rattle.bpf_asm.specs.Text.{line_at, text_of_code, AreAllowed, text_of, code_of}
+use Rattle.bpf_asm.specs.Line.{insn_line}
+use Rattle.bpf_asm.specs.Text.{line_at, text_of_code, AreAllowed, text_of, encodings}
 
 -- the slots of instructions
 abbrev slots_all : List Insn → List (Option Insn)
@@ -27,10 +27,10 @@ length-slots : (i : Insn) → length (slots_of i) ≡ units_of i
 length-slots (insn.LoadImm dst value) = refl
 length-slots _ = refl
 
-pub length-code : (is : List Insn) → length (code_of is) ≡ 8 * length (slots_all is)
+pub length-code : (is : List Insn) → length (encodings is) ≡ 8 * length (slots_all is)
 length-code [] = refl
 length-code (i ∷ is) =
-    let front = length-append (encoding i) (code_of is) in
+    let front = length-append (encoding i) (encodings is) in
     let slots = length-append (slots_of i) (slots_all is) in
     let one = length-encoding i in
     let units = length-slots i in
@@ -53,18 +53,18 @@ drop-front (x ∷ xs) ys = drop-front xs ys
 -- ---- the code of instructions is well formed, and its text is theirs
 
 fill : (code : List ℕ) → ((k : ℕ) → slice_index code k < 256) → (is : List Insn) (slots : List (Option Insn)) → AreAllowed is
-    → drop (8 * length slots) code ≡ code_of is → Filled code slots → Filled code (slots ++ slots_all is)
+    → drop (8 * length slots) code ≡ encodings is → Filled code slots → Filled code (slots ++ slots_all is)
 fill code small [] slots a e w = subst (λ (s : List (Option Insn)). Filled code s) (sym (append-nil slots)) w
 fill code small (i ∷ is) slots a e w =
-    let formed : form code (length slots) ≡ Some i = ap first_form e ∙ first_form-encoding i (code_of is) a.0 in
+    let formed : form code (length slots) ≡ Some i = ap first_form e ∙ first_form-encoding i (encodings is) a.0 in
     let more : Filled code (slots ++ slots_of i) = filled-more code slots i small w formed in
     let len = length-append slots (slots_of i) in
     let units = length-slots i in
     let bytes = length-encoding i in
     let place : 8 * length (slots ++ slots_of i) ≡ 8 * length slots + length (encoding i) = omega arith in
-    let rest : drop (8 * length (slots ++ slots_of i)) code ≡ code_of is =
+    let rest : drop (8 * length (slots ++ slots_of i)) code ≡ encodings is =
     ap (λ (n : ℕ). drop n code) place ∙ drop-add (8 * length slots) (length (encoding i)) code
-    ∙ ap (drop (length (encoding i))) e ∙ drop-front (encoding i) (code_of is) in
+    ∙ ap (drop (length (encoding i))) e ∙ drop-front (encoding i) (encodings is) in
     subst (λ (s : List (Option Insn)). Filled code s) (append_assoc slots (slots_of i) (slots_all is)) (fill code small is (slots ++ slots_of i) a.1 rest more)
 
 over_slots : (f : Option Insn → List ℕ) (g : ℕ → Option Insn) (slots : List (Option Insn)) (a : ℕ)
@@ -76,20 +76,20 @@ over_slots f g (s ∷ slots) a h =
     let later = over_slots f g slots (a + 1) (λ k lt. let next : a + suc k ≡ a + 1 + k = omega arith in h (suc k) (omega arith) ∙ ap g next) in
     ap (λ (o : Option Insn). f o ++ flat_map (λ p. f (g p)) (range_with_len (a + 1) (length slots))) (sym here) ∙ ap (λ (t : List ℕ). f s ++ t) later
 
-line-slots : (i : Insn) → flat_map line_at (slots_of i) ≡ line_of i ++ 10 ∷ []
-line-slots (insn.LoadImm dst value) = append-nil (line_of (insn.LoadImm dst value) ++ 10 ∷ [])
+line-slots : (i : Insn) → flat_map line_at (slots_of i) ≡ insn_line i ++ 10 ∷ []
+line-slots (insn.LoadImm dst value) = append-nil (insn_line (insn.LoadImm dst value) ++ 10 ∷ [])
 line-slots i = only i
   where
-    only : (j : Insn) → (line_of j ++ 10 ∷ []) ++ [] ≡ line_of j ++ 10 ∷ []
-    only j = append-nil (line_of j ++ 10 ∷ [])
+    only : (j : Insn) → (insn_line j ++ 10 ∷ []) ++ [] ≡ insn_line j ++ 10 ∷ []
+    only j = append-nil (insn_line j ++ 10 ∷ [])
 
 text-slots : (is : List Insn) → flat_map line_at (slots_all is) ≡ text_of is
 text-slots [] = refl
 text-slots (i ∷ is) =
     flat_map-append line_at (slots_of i) (slots_all is) ∙ ap (λ (t : List ℕ). t ++ flat_map line_at (slots_all is)) (line-slots i)
-    ∙ append_assoc (line_of i) (10 ∷ []) (flat_map line_at (slots_all is)) ∙ ap (λ (t : List ℕ). line_of i ++ 10 ∷ t) (text-slots is)
+    ∙ append_assoc (insn_line i) (10 ∷ []) (flat_map line_at (slots_all is)) ∙ ap (λ (t : List ℕ). insn_line i ++ 10 ∷ t) (text-slots is)
 
-pub record IsCodeOf (code : List ℕ) (is : List Insn) : Type 0 where
+pub record IsTextOf (code : List ℕ) (is : List Insn) : Type 0 where
   pub well_formed : IsWellFormed code
   pub text : text_of_code code ≡ text_of is
 
@@ -101,7 +101,7 @@ slots-some (i ∷ is) h = let len = length-append (slots_of i) (slots_all is) in
     some_of (insn.LoadImm dst value) = omega arith
     some_of _ = omega arith
 
-pub assembled : (code : List ℕ) → ((k : ℕ) → slice_index code k < 256) → (is : List Insn) → AreAllowed is → (is ≡ [] → ⊥) → code ≡ code_of is → IsCodeOf code is
+pub assembled : (code : List ℕ) → ((k : ℕ) → slice_index code k < 256) → (is : List Insn) → AreAllowed is → (is ≡ [] → ⊥) → code ≡ encodings is → IsTextOf code is
 assembled code small is a some e =
     let filled : Filled code (slots_all is) = fill code small is [] a e (filled-start code) in
     let len : length code ≡ 8 * length (slots_all is) = ap length e ∙ length-code is in
@@ -119,7 +119,7 @@ assembled code small is a some e =
 
 pub record IsMadeOf (code : List ℕ) (is : List Insn) (rest : List ℕ) : Type 0 where
   pub allowed : AreAllowed is
-  pub bytes : code ≡ code_of is ++ rest
+  pub bytes : code ≡ encodings is ++ rest
 
 walked : (n : ℕ) (code : List ℕ) (from : ℕ) → All (λ b. b < 256) code → (is : List Insn) × IsMadeOf (drop (8 * from) code) is (drop (8 * stop_from n code from) code)
 walked zero code from small = ([], record { allowed = tt; bytes = refl })
@@ -143,7 +143,7 @@ walked (suc n) code from small = by_form (form code from) refl (λ i. walked n c
             bytes =
                 sym whole ∙ ap (λ (t : List ℕ). t ++ drop (length (encoding i)) (drop (8 * from) code)) enc.1
                 ∙ ap (λ (t : List ℕ). encoding i ++ t) (sym behind ∙ ih.1.bytes)
-                ∙ sym (append_assoc (encoding i) (code_of ih.0) (drop (8 * stop_from n code (from + units_of i)) code));
+                ∙ sym (append_assoc (encoding i) (encodings ih.0) (drop (8 * stop_from n code (from + units_of i)) code));
           },
         )
 
@@ -154,7 +154,7 @@ drop-end (x ∷ xs) = drop-end xs
 pub record Assembles (code : List ℕ) (is : List Insn) : Type 0 where
   pub allowed : AreAllowed is
   pub some : is ≡ [] → ⊥
-  pub bytes : code ≡ code_of is
+  pub bytes : code ≡ encodings is
   pub text : text_of_code code ≡ text_of is
 
 pub disassembled : (code : List ℕ) → All (λ b. b < 256) code → IsWellFormed code → (is : List Insn) × Assembles code is
@@ -163,9 +163,9 @@ disassembled code small well =
     let ends : 8 * bad_place code ≡ length code = eqb-true (8 * bad_place code) (length code) w.1 in
     let more : 0 < length code = ltb-true 0 (length code) w.0 in
     let m = walked (length code) code 0 small in
-    let bytes : code ≡ code_of m.0 =
-    m.1.bytes ∙ ap (λ (n : ℕ). code_of m.0 ++ drop n code) ends ∙ ap (λ (t : List ℕ). code_of m.0 ++ t) (drop-end code) ∙ append-nil (code_of m.0) in
-    let some : m.0 ≡ [] → ⊥ = λ e. let none : length code ≡ 0 = ap length (bytes ∙ ap code_of e) in omega arith in
+    let bytes : code ≡ encodings m.0 =
+    m.1.bytes ∙ ap (λ (n : ℕ). encodings m.0 ++ drop n code) ends ∙ ap (λ (t : List ℕ). encodings m.0 ++ t) (drop-end code) ∙ append-nil (encodings m.0) in
+    let some : m.0 ≡ [] → ⊥ = λ e. let none : length code ≡ 0 = ap length (bytes ∙ ap encodings e) in omega arith in
     let c = assembled code (bytes_small code small) m.0 m.1.allowed some bytes in
     (m.0, record { allowed = m.1.allowed; some = some; bytes = bytes; text = c.text })
 

@@ -1,7 +1,10 @@
 pub mod CodeLaws
-pub mod CutTexts
+pub mod EachText
+pub mod EncodedBytes
 pub mod Lengths
 pub mod LineLaws
 pub mod Names
+pub mod Spaced
+pub mod SpacedParts
 pub mod Spelling
 pub mod TextLaws

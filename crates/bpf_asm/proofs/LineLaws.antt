@@ -1,7 +1,7 @@
 -- A line is read exactly where it is the line of an allowed instruction.
-use Rattle.std.proofs.Common.{◌≡◌, ℕ, suc, ◌<◌, ◌≤◌, ◌^◌, ℤ, Bool, true, false, not, ◌&&◌, cond, eqb, leb, List, [], ◌∷◌, ◌++◌, length, map, Some, option_map, get_or, inl, inr, refl, sym, ap, subst, ◌∙◌, arith}
+use Rattle.std.proofs.Common.{◌≡◌, ℕ, suc, ◌<◌, ◌≤◌, ◌^◌, ℤ, Bool, true, false, ◌&&◌, cond, eqb, leb, List, [], ◌∷◌, length, map, Some, option_map, get_or, inl, inr, refl, sym, ap, subst, ◌∙◌, arith}
 use Rattle.std.specs.Prelude.{decimal, option_and_then, FitsSigned, find}
-use Rattle.std.specs.List.{list_all, join_with_byte}
+use Rattle.std.specs.List.{list_all}
 use Rattle.std.specs.Str.{bytes_eq}
 use Rattle.std.specs.Int.{w16, w32, w64}
 use Rattle.bpf_isa.specs.declared.insn.Insn.{Insn}
@@ -17,7 +17,7 @@ use Rattle.bpf_isa.specs.declared.operation.AtomicOp.{AtomicOp}
 use Rattle.bpf_isa.specs.declared.operation.AtomicOp.TheVariants as atomic
 use Rattle.bpf_model.specs.Encoding.{IsAllowed, is_binary, is_division, is_narrow, is_atomic_size, is_plain, is_fetch}
 use Rattle.bpf_asm.specs.Mnemonic.{mnemonic_text}
-use Rattle.bpf_asm.specs.Line.{operand_text, mnemonic_of, operands_of, parts_of, line_of}
+use Rattle.bpf_asm.specs.Line.{operand_text, mnemonic_of, operands_of, line_parts, insn_line}
 use Rattle.bpf_asm.specs.declared.mnemonic.Mnemonic.{Mnemonic}
 use Rattle.bpf_asm.specs.declared.mnemonic.Mnemonic.TheVariants as word
 use Rattle.bpf_asm.specs.declared.mnemonic.TheConstants.{MNEMONICS}
@@ -25,11 +25,11 @@ use Rattle.bpf_asm.specs.declared.source.Source.{Source}
 use Rattle.bpf_asm.specs.declared.source.Source.TheVariants as source
 use Rattle.cp_text.specs.Number.{number_of}
 use Rattle.bpf_asm.specs.declared.operand.Operand.TheVariants.{Register, Signed}
-use Rattle.bpf_asm.specs.Reading.{insn_of, insn_in, mnemonic_named, lacks, parts_between, dst_source, dst_bits, dst_src_offset, dst_offset_src, read_one, read_two, read_three, register_of, offset_of, imm_of, source_of, move_to_32, move_to_64, helper_named, binary, division, move, branch}
+use Rattle.bpf_asm.specs.Reading.{insn_with, insn_in, mnemonic_named, dst_source, dst_bits, dst_src_offset, dst_offset_src, read_one, read_two, read_three, register_in, offset_in, imm_in, source_in, move_to_32, move_to_64, helper_named, binary_by, division_by, move_by, branch_by}
 use Rattle.std.specs.Fmt.{signed_decimal}
 use Rattle.std.proofs.lemmas.Bool.{and_parts, and_from, eqb-true, le-leb}
-use Rattle.std.proofs.lemmas.List.Folds.{list_all-append}
-use Rattle.std.proofs.lemmas.List.Splits.{join_with_byte-slice_split}
+use Rattle.cp_text.specs.Parts.{all_lack, joined_by, lacks, parts_between}
+use Rattle.cp_text.proofs.Joined.{all_lack_cons, joined_again, joined_lacks, lacks_cons, parts_again}
 use Rattle.cp_text.proofs.NumberTexts.{decimal-are_digits}
 use Rattle.cp_text.proofs.SignedTexts.{signed_decimal-are_digits}
 use Rattle.bpf_isa.specs.Width.{bits_of}
@@ -61,46 +61,46 @@ nine = omega arith
 ten : 10 ≤ 10
 ten = omega arith
 
-says_binary : (op : AluOp) (wide : Bool) (ps : List (List ℕ)) (dst : ℕ) (s : Source) → is_binary op ≡ true → ps ≡ operand_text (Register dst) ∷ source_text s ∷ [] → dst ≤ 9 → SourceFits s → Says (word.Binary op wide) ps (binary op wide dst s)
+says_binary : (op : AluOp) (wide : Bool) (ps : List (List ℕ)) (dst : ℕ) (s : Source) → is_binary op ≡ true → ps ≡ operand_text (Register dst) ∷ source_text s ∷ [] → dst ≤ 9 → SourceFits s → Says (word.Binary op wide) ps (binary_by op wide dst s)
 says_binary op wide ps dst (source.Register r) b e d f = record { mnemonic = refl; operands = e; allowed = (b, d, f) }
 says_binary op wide ps dst (source.Immediate z) b e d f = record { mnemonic = refl; operands = e; allowed = (b, d, f) }
 
-says_division : (op : AluOp) (wide : Bool) (ps : List (List ℕ)) (dst : ℕ) (s : Source) → is_division op ≡ true → ps ≡ operand_text (Register dst) ∷ source_text s ∷ [] → dst ≤ 9 → SourceFits s → Says (word.Division op wide) ps (division op wide dst s)
+says_division : (op : AluOp) (wide : Bool) (ps : List (List ℕ)) (dst : ℕ) (s : Source) → is_division op ≡ true → ps ≡ operand_text (Register dst) ∷ source_text s ∷ [] → dst ≤ 9 → SourceFits s → Says (word.Division op wide) ps (division_by op wide dst s)
 says_division op wide ps dst (source.Register r) b e d f = record { mnemonic = refl; operands = e; allowed = (b, d, f) }
 says_division op wide ps dst (source.Immediate z) b e d f = record { mnemonic = refl; operands = e; allowed = (b, d, f) }
 
-says_move : (wide : Bool) (ps : List (List ℕ)) (dst : ℕ) (s : Source) → ps ≡ operand_text (Register dst) ∷ source_text s ∷ [] → dst ≤ 9 → SourceFits s → Says (word.Move wide) ps (move wide dst s)
+says_move : (wide : Bool) (ps : List (List ℕ)) (dst : ℕ) (s : Source) → ps ≡ operand_text (Register dst) ∷ source_text s ∷ [] → dst ≤ 9 → SourceFits s → Says (word.Move wide) ps (move_by wide dst s)
 says_move wide ps dst (source.Register r) e d f = record { mnemonic = refl; operands = e; allowed = (d, f) }
 says_move wide ps dst (source.Immediate z) e d f = record { mnemonic = refl; operands = e; allowed = (d, f) }
 
-says_branch : (op : JumpOp) (wide : Bool) (ps : List (List ℕ)) (dst : ℕ) (s : Source) (o : ℤ) → ps ≡ operand_text (Register dst) ∷ source_text s ∷ operand_text (Signed o) ∷ [] → dst ≤ 10 → SourceFits s → FitsSigned w16 o → Says (word.Branch op wide) ps (branch op wide dst s o)
+says_branch : (op : JumpOp) (wide : Bool) (ps : List (List ℕ)) (dst : ℕ) (s : Source) (o : ℤ) → ps ≡ operand_text (Register dst) ∷ source_text s ∷ operand_text (Signed o) ∷ [] → dst ≤ 10 → SourceFits s → FitsSigned w16 o → Says (word.Branch op wide) ps (branch_by op wide dst s o)
 says_branch op wide ps dst (source.Register r) o e d f g = record { mnemonic = refl; operands = e; allowed = (d, f, g) }
 says_branch op wide ps dst (source.Immediate z) o e d f g = record { mnemonic = refl; operands = e; allowed = (d, g, f) }
 
 -- what is read is spelled so
-pub reads : (m : Mnemonic) (ps : List (List ℕ)) (i : Insn) → is_word m ≡ true → insn_of m ps ≡ Some i → Says m ps i
+pub reads : (m : Mnemonic) (ps : List (List ℕ)) (i : Insn) → is_word m ≡ true → insn_with m ps ≡ Some i → Says m ps i
 reads (word.Binary op wide) ps i b e =
-    let m = mapped (λ (p : ℕ × Source). binary op wide p.0 p.1) (dst_source ps) i e in
+    let m = mapped (λ (p : ℕ × Source). binary_by op wide p.0 p.1) (dst_source ps) i e in
     let r = two_spelled (registers 9 nine) sources ps m.0 m.1 in
     subst (λ (x : Insn). Says (word.Binary op wide) ps x) m.2 (says_binary op wide ps m.0.0 m.0.1 b r.0 r.1 r.2)
 reads (word.Division op wide) ps i b e =
-    let m = mapped (λ (p : ℕ × Source). division op wide p.0 p.1) (dst_source ps) i e in
+    let m = mapped (λ (p : ℕ × Source). division_by op wide p.0 p.1) (dst_source ps) i e in
     let r = two_spelled (registers 9 nine) sources ps m.0 m.1 in
     subst (λ (x : Insn). Says (word.Division op wide) ps x) m.2 (says_division op wide ps m.0.0 m.0.1 b r.0 r.1 r.2)
 reads (word.Move wide) ps i b e =
-    let m = mapped (λ (p : ℕ × Source). move wide p.0 p.1) (dst_source ps) i e in
+    let m = mapped (λ (p : ℕ × Source). move_by wide p.0 p.1) (dst_source ps) i e in
     let r = two_spelled (registers 9 nine) sources ps m.0 m.1 in
     subst (λ (x : Insn). Says (word.Move wide) ps x) m.2 (says_move wide ps m.0.0 m.0.1 r.0 r.1 r.2)
 reads (word.Negate wide) ps i b e =
-    let m = mapped (λ (p : ℕ). insn.Neg wide p) (read_one (register_of 9) ps) i e in
+    let m = mapped (λ (p : ℕ). insn.Neg wide p) (read_one (register_in 9) ps) i e in
     let r = one_spelled (registers 9 nine) ps m.0 m.1 in
     subst (λ (x : Insn). Says (word.Negate wide) ps x) m.2 (record { mnemonic = refl; operands = r.0; allowed = r.1 })
 reads word.Extend32 ps i b e =
-    let m = mapped (λ (p : ℕ × ℕ × AluOp). insn.Movsx32 p.2 p.0 p.1) (read_three (register_of 9) (register_of 10) move_to_32 ps) i e in
+    let m = mapped (λ (p : ℕ × ℕ × AluOp). insn.Movsx32 p.2 p.0 p.1) (read_three (register_in 9) (register_in 10) move_to_32 ps) i e in
     let r = three_spelled (registers 9 nine) (registers 10 ten) moves_32 ps m.0 m.1 in
     subst (λ (x : Insn). Says word.Extend32 ps x) m.2 (record { mnemonic = refl; operands = r.0; allowed = (r.3, r.1, r.2) })
 reads word.Extend64 ps i b e =
-    let m = mapped (λ (p : ℕ × ℕ × AluOp). insn.Movsx64 p.2 p.0 p.1) (read_three (register_of 9) (register_of 10) move_to_64 ps) i e in
+    let m = mapped (λ (p : ℕ × ℕ × AluOp). insn.Movsx64 p.2 p.0 p.1) (read_three (register_in 9) (register_in 10) move_to_64 ps) i e in
     let r = three_spelled (registers 9 nine) (registers 10 ten) moves_64 ps m.0 m.1 in
     subst (λ (x : Insn). Says word.Extend64 ps x) m.2 (record { mnemonic = refl; operands = r.0; allowed = (r.3, r.1, r.2) })
 reads word.ToLittle ps i b e =
@@ -116,7 +116,7 @@ reads word.Swap ps i b e =
     let r = two_spelled (registers 9 nine) widths ps m.0 m.1 in
     subst (λ (x : Insn). Says word.Swap ps x) m.2 (record { mnemonic = refl; operands = r.0; allowed = r.1 })
 reads word.LoadImm ps i b e =
-    let m = mapped (λ (p : ℕ × ℕ). insn.LoadImm p.0 p.1) (read_two (register_of 9) number_of ps) i e in
+    let m = mapped (λ (p : ℕ × ℕ). insn.LoadImm p.0 p.1) (read_two (register_in 9) number_of ps) i e in
     let r = two_spelled (registers 9 nine) numbers ps m.0 m.1 in
     subst (λ (x : Insn). Says word.LoadImm ps x) m.2 (record { mnemonic = refl; operands = r.0; allowed = (r.1, r.2) })
 reads (word.Load size) ps i b e =
@@ -128,7 +128,7 @@ reads (word.LoadSigned size) ps i b e =
     let r = three_spelled (registers 9 nine) (registers 10 ten) offsets ps m.0 m.1 in
     subst (λ (x : Insn). Says (word.LoadSigned size) ps x) m.2 (record { mnemonic = refl; operands = r.0; allowed = (b, r.1, r.2, r.3) })
 reads (word.StoreImm size) ps i b e =
-    let m = mapped (λ (p : ℕ × ℤ × ℤ). insn.StoreImm size p.0 p.1 p.2) (read_three (register_of 10) offset_of imm_of ps) i e in
+    let m = mapped (λ (p : ℕ × ℤ × ℤ). insn.StoreImm size p.0 p.1 p.2) (read_three (register_in 10) offset_in imm_in ps) i e in
     let r = three_spelled (registers 10 ten) offsets imms ps m.0 m.1 in
     subst (λ (x : Insn). Says (word.StoreImm size) ps x) m.2 (record { mnemonic = refl; operands = r.0; allowed = (r.1, r.2, r.3) })
 reads (word.StoreReg size) ps i b e =
@@ -148,15 +148,15 @@ reads (word.CompareExchange size) ps i b e =
     let r = three_spelled (registers 10 ten) offsets (registers 10 ten) ps m.0 m.1 in
     subst (λ (x : Insn). Says (word.CompareExchange size) ps x) m.2 (record { mnemonic = refl; operands = r.0; allowed = (b, r.1, r.3, r.2) })
 reads (word.Branch op wide) ps i b e =
-    let m = mapped (λ (p : ℕ × Source × ℤ). branch op wide p.0 p.1 p.2) (read_three (register_of 10) source_of offset_of ps) i e in
+    let m = mapped (λ (p : ℕ × Source × ℤ). branch_by op wide p.0 p.1 p.2) (read_three (register_in 10) source_in offset_in ps) i e in
     let r = three_spelled (registers 10 ten) sources offsets ps m.0 m.1 in
     subst (λ (x : Insn). Says (word.Branch op wide) ps x) m.2 (says_branch op wide ps m.0.0 m.0.1 m.0.2 r.0 r.1 r.2 r.3)
 reads word.Jump ps i b e =
-    let m = mapped (λ (p : ℤ). insn.Jump p) (read_one offset_of ps) i e in
+    let m = mapped (λ (p : ℤ). insn.Jump p) (read_one offset_in ps) i e in
     let r = one_spelled offsets ps m.0 m.1 in
     subst (λ (x : Insn). Says word.Jump ps x) m.2 (record { mnemonic = refl; operands = r.0; allowed = r.1 })
 reads word.JumpLong ps i b e =
-    let m = mapped (λ (p : ℤ). insn.JumpLong p) (read_one imm_of ps) i e in
+    let m = mapped (λ (p : ℤ). insn.JumpLong p) (read_one imm_in ps) i e in
     let r = one_spelled imms ps m.0 m.1 in
     subst (λ (x : Insn). Says word.JumpLong ps x) m.2 (record { mnemonic = refl; operands = r.0; allowed = r.1 })
 reads word.CallHelper ps i b e =
@@ -164,21 +164,21 @@ reads word.CallHelper ps i b e =
     let r = one_spelled helpers ps m.0 m.1 in
     subst (λ (x : Insn). Says word.CallHelper ps x) m.2 (record { mnemonic = refl; operands = r.0; allowed = tt })
 reads word.CallLocal ps i b e =
-    let m = mapped (λ (p : ℤ). insn.CallLocal p) (read_one imm_of ps) i e in
+    let m = mapped (λ (p : ℤ). insn.CallLocal p) (read_one imm_in ps) i e in
     let r = one_spelled imms ps m.0 m.1 in
     subst (λ (x : Insn). Says word.CallLocal ps x) m.2 (record { mnemonic = refl; operands = r.0; allowed = r.1 })
 reads word.Exit [] i b e = subst (λ (x : Insn). Says word.Exit [] x) (same_some insn.Exit i e) (record { mnemonic = refl; operands = refl; allowed = tt })
 reads word.Exit (p ∷ ps) i b e = absurd cc
 
 -- what is spelled so is read
-pub reads_again : (i : Insn) → IsAllowed i → insn_of (mnemonic_of i) (map operand_text (operands_of i)) ≡ Some i
-reads_again (insn.AluImm op wide dst imm) a = ap (option_map (λ (p : ℕ × Source). binary op wide p.0 p.1)) (two_again (registers 9 nine) sources dst (source.Immediate imm) a.1 a.2)
-reads_again (insn.AluReg op wide dst src) a = ap (option_map (λ (p : ℕ × Source). binary op wide p.0 p.1)) (two_again (registers 9 nine) sources dst (source.Register src) a.1 a.2)
-reads_again (insn.DivImm op wide dst imm) a = ap (option_map (λ (p : ℕ × Source). division op wide p.0 p.1)) (two_again (registers 9 nine) sources dst (source.Immediate imm) a.1 a.2)
-reads_again (insn.DivReg op wide dst src) a = ap (option_map (λ (p : ℕ × Source). division op wide p.0 p.1)) (two_again (registers 9 nine) sources dst (source.Register src) a.1 a.2)
+pub reads_again : (i : Insn) → IsAllowed i → insn_with (mnemonic_of i) (map operand_text (operands_of i)) ≡ Some i
+reads_again (insn.AluImm op wide dst imm) a = ap (option_map (λ (p : ℕ × Source). binary_by op wide p.0 p.1)) (two_again (registers 9 nine) sources dst (source.Immediate imm) a.1 a.2)
+reads_again (insn.AluReg op wide dst src) a = ap (option_map (λ (p : ℕ × Source). binary_by op wide p.0 p.1)) (two_again (registers 9 nine) sources dst (source.Register src) a.1 a.2)
+reads_again (insn.DivImm op wide dst imm) a = ap (option_map (λ (p : ℕ × Source). division_by op wide p.0 p.1)) (two_again (registers 9 nine) sources dst (source.Immediate imm) a.1 a.2)
+reads_again (insn.DivReg op wide dst src) a = ap (option_map (λ (p : ℕ × Source). division_by op wide p.0 p.1)) (two_again (registers 9 nine) sources dst (source.Register src) a.1 a.2)
 reads_again (insn.Neg wide dst) a = ap (option_map (λ (p : ℕ). insn.Neg wide p)) (one_again (registers 9 nine) dst a)
-reads_again (insn.MovImm wide dst imm) a = ap (option_map (λ (p : ℕ × Source). move wide p.0 p.1)) (two_again (registers 9 nine) sources dst (source.Immediate imm) a.0 a.1)
-reads_again (insn.MovReg wide dst src) a = ap (option_map (λ (p : ℕ × Source). move wide p.0 p.1)) (two_again (registers 9 nine) sources dst (source.Register src) a.0 a.1)
+reads_again (insn.MovImm wide dst imm) a = ap (option_map (λ (p : ℕ × Source). move_by wide p.0 p.1)) (two_again (registers 9 nine) sources dst (source.Immediate imm) a.0 a.1)
+reads_again (insn.MovReg wide dst src) a = ap (option_map (λ (p : ℕ × Source). move_by wide p.0 p.1)) (two_again (registers 9 nine) sources dst (source.Register src) a.0 a.1)
 reads_again (insn.Movsx32 op dst src) a = ap (option_map (λ (p : ℕ × ℕ × AluOp). insn.Movsx32 p.2 p.0 p.1)) (three_again (registers 9 nine) (registers 10 ten) moves_32 dst src op a.1 a.2 a.0)
 reads_again (insn.Movsx64 op dst src) a = ap (option_map (λ (p : ℕ × ℕ × AluOp). insn.Movsx64 p.2 p.0 p.1)) (three_again (registers 9 nine) (registers 10 ten) moves_64 dst src op a.1 a.2 a.0)
 reads_again (insn.ToLittle bits dst) a = ap (option_map (λ (p : ℕ × Width). insn.ToLittle p.1 p.0)) (two_again (registers 9 nine) widths dst bits a tt)
@@ -186,8 +186,8 @@ reads_again (insn.ToBig bits dst) a = ap (option_map (λ (p : ℕ × Width). ins
 reads_again (insn.Swap bits dst) a = ap (option_map (λ (p : ℕ × Width). insn.Swap p.1 p.0)) (two_again (registers 9 nine) widths dst bits a tt)
 reads_again (insn.Jump offset) a = ap (option_map (λ (p : ℤ). insn.Jump p)) (one_again offsets offset a)
 reads_again (insn.JumpLong imm) a = ap (option_map (λ (p : ℤ). insn.JumpLong p)) (one_again imms imm a)
-reads_again (insn.BranchImm op wide dst offset imm) a = ap (option_map (λ (p : ℕ × Source × ℤ). branch op wide p.0 p.1 p.2)) (three_again (registers 10 ten) sources offsets dst (source.Immediate imm) offset a.0 a.2 a.1)
-reads_again (insn.BranchReg op wide dst src offset) a = ap (option_map (λ (p : ℕ × Source × ℤ). branch op wide p.0 p.1 p.2)) (three_again (registers 10 ten) sources offsets dst (source.Register src) offset a.0 a.1 a.2)
+reads_again (insn.BranchImm op wide dst offset imm) a = ap (option_map (λ (p : ℕ × Source × ℤ). branch_by op wide p.0 p.1 p.2)) (three_again (registers 10 ten) sources offsets dst (source.Immediate imm) offset a.0 a.2 a.1)
+reads_again (insn.BranchReg op wide dst src offset) a = ap (option_map (λ (p : ℕ × Source × ℤ). branch_by op wide p.0 p.1 p.2)) (three_again (registers 10 ten) sources offsets dst (source.Register src) offset a.0 a.1 a.2)
 reads_again insn.CallHelper a = ap (option_map (λ (p : ℕ). insn.CallHelper)) (one_again helpers 1 refl)
 reads_again (insn.CallLocal imm) a = ap (option_map (λ (p : ℤ). insn.CallLocal p)) (one_again imms imm a)
 reads_again insn.Exit a = refl
@@ -514,73 +514,49 @@ operands_visible (insn.Atomic op s dst src offset) a = (reg dst a.2, (off offset
 operands_visible (insn.AtomicFetch op s dst src offset) a = (reg dst a.2, (off offset a.4, (reg src (nine_ten src a.3), tt)))
 operands_visible (insn.CompareExchange s dst src offset) a = (reg dst a.1, (off offset a.3, (reg src a.2, tt)))
 
-parts_visible : (i : Insn) → IsAllowed i → AreVisible (parts_of i)
+parts_visible : (i : Insn) → IsAllowed i → AreVisible (line_parts i)
 parts_visible i a = (visible_word (mnemonic_of i) (named (mnemonic_of i) (allowed_word i a)), operands_visible i a)
 
 -- ---- parts
 
-not_space : (b : ℕ) → leb 33 b ≡ true → eqb b 32 ≡ false
-not_space b h = grind (arith, h)
-
-uncut : (t : List ℕ) → IsVisible t → parts_between 32 t ≡ t ∷ []
-uncut [] h = refl
-uncut (b ∷ bs) h =
+-- a visible byte is neither a space nor a newline
+lacks_visible : (mark : ℕ) (t : List ℕ) → mark < 33 → IsVisible t → lacks mark t ≡ true
+lacks_visible mark [] low h = refl
+lacks_visible mark (b ∷ bs) low h =
     let p = and_parts (leb 33 b) (list_all (λ b. leb 33 b) bs) h in
-    rw (not_space b p.0, uncut bs p.1) refl
+    lacks_cons mark b bs (grind (arith, p.0)) (lacks_visible mark bs low p.1)
 
-cut : (t u : List ℕ) → IsVisible t → parts_between 32 (t ++ 32 ∷ u) ≡ t ∷ parts_between 32 u
-cut [] u h = refl
-cut (b ∷ bs) u h =
-    let p = and_parts (leb 33 b) (list_all (λ b. leb 33 b) bs) h in
-    rw (not_space b p.0, cut bs u p.1) refl
-
-cut_joined : (t : List ℕ) (ts : List (List ℕ)) → AreVisible (t ∷ ts) → parts_between 32 (join_with_byte 32 (t ∷ ts)) ≡ t ∷ ts
-cut_joined t [] h = uncut t h.0
-cut_joined t (u ∷ us) h = cut t (join_with_byte 32 (u ∷ us)) h.0 ∙ ap (λ (x : List (List ℕ)). t ∷ x) (cut_joined u us h.1)
+all_lack_visible : (mark : ℕ) (ts : List (List ℕ)) → mark < 33 → AreVisible ts → all_lack mark ts ≡ true
+all_lack_visible mark [] low h = refl
+all_lack_visible mark (t ∷ ts) low h = all_lack_cons mark t ts (lacks_visible mark t low h.0) (all_lack_visible mark ts low h.1)
 
 -- ---- lines
 
-read_parts : (ps : List (List ℕ)) (i : Insn) → insn_in ps ≡ Some i → (ps ≡ parts_of i) × IsAllowed i
+read_parts : (ps : List (List ℕ)) (i : Insn) → insn_in ps ≡ Some i → (ps ≡ line_parts i) × IsAllowed i
 read_parts [] i e = absurd cc
 read_parts (t ∷ ps) i e =
-    let m = then_some (λ (m : Mnemonic). insn_of m ps) (mnemonic_named t) i e in
+    let m = then_some (λ (m : Mnemonic). insn_with m ps) (mnemonic_named t) i e in
     let n = named_is t m.0 m.1 in
     let s = reads m.0 ps i n.1 m.2 in
     (ap (λ (x : List ℕ). x ∷ ps) (n.0 ∙ ap mnemonic_text (sym s.mnemonic)) ∙ ap (λ (x : List (List ℕ)). mnemonic_text (mnemonic_of i) ∷ x) s.operands, s.allowed)
 
 -- a line that is read is the line of what is read
-pub line_read : (t : List ℕ) (i : Insn) → insn_in (parts_between 32 t) ≡ Some i → (t ≡ line_of i) × IsAllowed i
+pub line_read : (t : List ℕ) (i : Insn) → insn_in (parts_between 32 t) ≡ Some i → (t ≡ insn_line i) × IsAllowed i
 line_read t i e =
     let r = read_parts (parts_between 32 t) i e in
-    (sym (join_with_byte-slice_split 32 t) ∙ ap (join_with_byte 32) r.0, r.1)
+    (sym (joined_again 32 t) ∙ ap (joined_by 32) r.0, r.1)
 
 -- the line of an allowed instruction is read as it
-pub line_again : (i : Insn) → IsAllowed i → insn_in (parts_between 32 (line_of i)) ≡ Some i
+pub line_again : (i : Insn) → IsAllowed i → insn_in (parts_between 32 (insn_line i)) ≡ Some i
 line_again i a =
-    ap insn_in (cut_joined (mnemonic_text (mnemonic_of i)) (map operand_text (operands_of i)) (parts_visible i a))
-    ∙ ap (option_and_then (λ (m : Mnemonic). insn_of m (map operand_text (operands_of i)))) (named (mnemonic_of i) (allowed_word i a))
+    ap insn_in (parts_again 32 (mnemonic_text (mnemonic_of i)) (map operand_text (operands_of i)) (all_lack_visible 32 (line_parts i) (omega arith) (parts_visible i a)))
+    ∙ ap (option_and_then (λ (m : Mnemonic). insn_with m (map operand_text (operands_of i)))) (named (mnemonic_of i) (allowed_word i a))
     ∙ reads_again i a
 
 -- another allowed instruction has another line
-pub line_one : (i j : Insn) → IsAllowed i → IsAllowed j → line_of i ≡ line_of j → i ≡ j
+pub line_one : (i j : Insn) → IsAllowed i → IsAllowed j → insn_line i ≡ insn_line j → i ≡ j
 line_one i j a b e = same_some i j (sym (line_again i a) ∙ ap (λ (t : List ℕ). insn_in (parts_between 32 t)) e ∙ line_again j b)
 
 -- no byte of a line is a newline
-not_newline : (b : ℕ) → leb 33 b ≡ true → not (eqb b 10) ≡ true
-not_newline b h = grind (arith, h)
-
-visible_line : (t : List ℕ) → IsVisible t → lacks 10 t ≡ true
-visible_line [] h = refl
-visible_line (b ∷ bs) h =
-    let p = and_parts (leb 33 b) (list_all (λ b. leb 33 b) bs) h in
-    and_from (not (eqb b 10)) (lacks 10 bs) (not_newline b p.0) (visible_line bs p.1)
-
-joined_line : (ts : List (List ℕ)) → AreVisible ts → lacks 10 (join_with_byte 32 ts) ≡ true
-joined_line [] h = refl
-joined_line (t ∷ []) h = visible_line t h.0
-joined_line (t ∷ u ∷ us) h =
-    list_all-append (λ b. not (eqb b 10)) t (32 ∷ join_with_byte 32 (u ∷ us))
-    ∙ and_from (lacks 10 t) (lacks 10 (join_with_byte 32 (u ∷ us))) (visible_line t h.0) (joined_line (u ∷ us) h.1)
-
-pub line_lacks : (i : Insn) → IsAllowed i → lacks 10 (line_of i) ≡ true
-line_lacks i a = joined_line (parts_of i) (parts_visible i a)
+pub line_lacks : (i : Insn) → IsAllowed i → lacks 10 (insn_line i) ≡ true
+line_lacks i a = joined_lacks 10 32 (line_parts i) refl (all_lack_visible 10 (line_parts i) (omega arith) (parts_visible i a))

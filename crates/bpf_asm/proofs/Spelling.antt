@@ -21,7 +21,7 @@ use Rattle.bpf_asm.specs.Line.{operand_text}
 use Rattle.bpf_asm.specs.declared.operand.Operand.TheVariants.{Register, Signed, Number}
 use Rattle.bpf_asm.specs.declared.source.Source.{Source}
 use Rattle.bpf_asm.specs.declared.source.Source.TheVariants as source
-use Rattle.bpf_asm.specs.Reading.{one_of, two_of, three_of, in_front, in_front_of_two, at_most, register_of, below, offset_of, imm_of, source_of, bits_named, move_to_32, move_to_64, helper_named, read_one, both, read_two, all_three, read_three}
+use Rattle.bpf_asm.specs.Reading.{one_of, two_of, three_of, in_front, in_front_of_two, at_most, register_in, below, offset_in, imm_in, source_in, bits_named, move_to_32, move_to_64, helper_named, read_one, all_two, read_two, all_three, read_three}
 
 -- a kind of operand: what is read is spelled so and fits, and what fits is read as it is spelled
 pub record Spelling {A : Type 0} (text : A → List ℕ) (read : List ℕ → Option A) (Fits : A → Type 0) : Type 0 where
@@ -57,7 +57,7 @@ at_most-some greatest (Some n) r e =
     let h = if_some (leb n greatest) n r e in
     (ap (λ (m : ℕ). Some m) h.1, subst (λ (m : ℕ). m ≤ greatest) h.1 (leb-true n greatest h.0))
 
-register-spelled : (greatest : ℕ) (t : List ℕ) (r : ℕ) → register_of greatest t ≡ Some r → (t ≡ operand_text (Register r)) × (r ≤ greatest)
+register-spelled : (greatest : ℕ) (t : List ℕ) (r : ℕ) → register_in greatest t ≡ Some r → (t ≡ operand_text (Register r)) × (r ≤ greatest)
 register-spelled greatest [] r e = absurd cc
 register-spelled greatest (c ∷ rest) r e = by_first (eqb c 114) refl e
   where
@@ -69,13 +69,13 @@ register-spelled greatest (c ∷ rest) r e = by_first (eqb c 114) refl e
         (ap (λ (x : ℕ). x ∷ rest) is ∙ ap (λ (x : List ℕ). 114 ∷ x) n.0, a.1)
     by_first false h e = absurd cc
 
-register-again : (greatest : ℕ) → greatest ≤ 10 → (r : ℕ) → r ≤ greatest → register_of greatest (operand_text (Register r)) ≡ Some r
+register-again : (greatest : ℕ) → greatest ≤ 10 → (r : ℕ) → r ≤ greatest → register_in greatest (operand_text (Register r)) ≡ Some r
 register-again greatest low r h =
     let n : number_of (decimal r) ≡ Some r = number_of-decimal r (omega arith) in
     let t : leb r greatest ≡ true = le-leb r greatest h in
     ap (at_most greatest) n ∙ ap (λ (b : Bool). cond b (Some r) None) t
 
-pub registers : (greatest : ℕ) → greatest ≤ 10 → Spelling (λ r. operand_text (Register r)) (register_of greatest) (λ r. r ≤ greatest)
+pub registers : (greatest : ℕ) → greatest ≤ 10 → Spelling (λ r. operand_text (Register r)) (register_in greatest) (λ r. r ≤ greatest)
 registers greatest low = record { spelled = register-spelled greatest; again = register-again greatest low }
 
 -- ---- signed numbers
@@ -123,13 +123,13 @@ wide_16 z f = search (rules, arith, ints)
 pub wide_32 : (z : ℤ) → FitsSigned w32 z → FitsSigned w64 z
 wide_32 z f = search (rules, arith, ints)
 
-pub offsets : Spelling (λ z. operand_text (Signed z)) offset_of (λ z. FitsSigned w16 z)
+pub offsets : Spelling (λ z. operand_text (Signed z)) offset_in (λ z. FitsSigned w16 z)
 offsets = record {
   spelled = λ t z e. let b = below-some (2 ^ 15) (signed_of t) z e in ((signed_of-spelled t z b.0).0, fits_16 z b.1);
   again = λ z f. ap (below (2 ^ 15)) (signed_of-decimal z (wide_16 z f)) ∙ below_16 z f;
 }
 
-pub imms : Spelling (λ z. operand_text (Signed z)) imm_of (λ z. FitsSigned w32 z)
+pub imms : Spelling (λ z. operand_text (Signed z)) imm_in (λ z. FitsSigned w32 z)
 imms = record {
   spelled = λ t z e. let b = below-some (2 ^ 31) (signed_of t) z e in ((signed_of-spelled t z b.0).0, fits_32 z b.1);
   again = λ z f. ap (below (2 ^ 31)) (signed_of-decimal z (wide_32 z f)) ∙ below_32 z f;
@@ -145,39 +145,39 @@ abbrev pub SourceFits : Source → Type 0
 SourceFits (source.Register r) = r ≤ 10
 SourceFits (source.Immediate z) = FitsSigned w32 z
 
-source-spelled : (t : List ℕ) (s : Source) → source_of t ≡ Some s → (t ≡ source_text s) × SourceFits s
+source-spelled : (t : List ℕ) (s : Source) → source_in t ≡ Some s → (t ≡ source_text s) × SourceFits s
 source-spelled [] s e = absurd cc
 source-spelled (c ∷ rest) s e = by_first (eqb c 114) e
   where
-    by_first : (b : Bool) → cond b (option_map (λ r. source.Register r) (register_of 10 (c ∷ rest))) (option_map (λ imm. source.Immediate imm) (imm_of (c ∷ rest))) ≡ Some s
+    by_first : (b : Bool) → cond b (option_map (λ r. source.Register r) (register_in 10 (c ∷ rest))) (option_map (λ imm. source.Immediate imm) (imm_in (c ∷ rest))) ≡ Some s
         → (c ∷ rest ≡ source_text s) × SourceFits s
     by_first true e =
-        let m = mapped (λ (r : ℕ). source.Register r) (register_of 10 (c ∷ rest)) s e in
+        let m = mapped (λ (r : ℕ). source.Register r) (register_in 10 (c ∷ rest)) s e in
         let r = register-spelled 10 (c ∷ rest) m.0 m.1 in
         subst (λ (x : Source). (c ∷ rest ≡ source_text x) × SourceFits x) m.2 r
     by_first false e =
-        let m = mapped (λ (z : ℤ). source.Immediate z) (imm_of (c ∷ rest)) s e in
+        let m = mapped (λ (z : ℤ). source.Immediate z) (imm_in (c ∷ rest)) s e in
         let z = imms.spelled (c ∷ rest) m.0 m.1 in
         subst (λ (x : Source). (c ∷ rest ≡ source_text x) × SourceFits x) m.2 z
 
 -- a text of digits and a minus is no register
-imm_source : (t : List ℕ) (z : ℤ) → t ≡ signed_decimal z → FitsSigned w32 z → source_of t ≡ Some (source.Immediate z)
+imm_source : (t : List ℕ) (z : ℤ) → t ≡ signed_decimal z → FitsSigned w32 z → source_in t ≡ Some (source.Immediate z)
 imm_source [] z e f =
     let some = imms.again z f in
-    let none : imm_of [] ≡ Some z = ap imm_of e ∙ some in
+    let none : imm_in [] ≡ Some z = ap imm_in e ∙ some in
     absurd cc
 imm_source (c ∷ rest) z e f =
     let digits = signed_decimal-are_digits z (wide_32 z f) in
     let first = subst (λ (t : List ℕ). AreSignedDigits t) (sym e) digits in
     let other : eqb c 114 ≡ false = grind (arith, first 0 0 (omega arith)) in
-    ap (λ (b : Bool). cond b (option_map (λ r. source.Register r) (register_of 10 (c ∷ rest))) (option_map (λ imm. source.Immediate imm) (imm_of (c ∷ rest)))) other
-    ∙ ap (λ (o : Option ℤ). option_map (λ imm. source.Immediate imm) o) (ap imm_of e ∙ imms.again z f)
+    ap (λ (b : Bool). cond b (option_map (λ r. source.Register r) (register_in 10 (c ∷ rest))) (option_map (λ imm. source.Immediate imm) (imm_in (c ∷ rest)))) other
+    ∙ ap (λ (o : Option ℤ). option_map (λ imm. source.Immediate imm) o) (ap imm_in e ∙ imms.again z f)
 
-source-again : (s : Source) → SourceFits s → source_of (source_text s) ≡ Some s
+source-again : (s : Source) → SourceFits s → source_in (source_text s) ≡ Some s
 source-again (source.Register r) h = ap (λ (o : Option ℕ). option_map (λ r. source.Register r) o) (register-again 10 (omega arith) r h)
 source-again (source.Immediate z) h = imm_source (signed_decimal z) z refl h
 
-pub sources : Spelling source_text source_of SourceFits
+pub sources : Spelling source_text source_in SourceFits
 sources = record { spelled = source-spelled; again = source-again }
 
 -- ---- numbers
@@ -283,7 +283,7 @@ three_is (a ∷ ps) p e = by_rest (two_of ps) refl e
         let q : (a, b.0, b.1) ≡ p = same (a, b.0, b.1) p e in
         ap (λ (x : List (List ℕ)). a ∷ x) (two_is ps b h) ∙ ap (λ (x : List ℕ × List ℕ × List ℕ). x.0 ∷ x.1 ∷ x.2 ∷ []) q
 
-both-some : {A B : Type 0} (a : Option A) (b : Option B) (p : A × B) → both a b ≡ Some p → (a ≡ Some p.0) × (b ≡ Some p.1)
+both-some : {A B : Type 0} (a : Option A) (b : Option B) (p : A × B) → all_two a b ≡ Some p → (a ≡ Some p.0) × (b ≡ Some p.1)
 both-some None b p e = absurd cc
 both-some (Some a) None p e = absurd cc
 both-some {A} {B} (Some a) (Some b) p e =
@@ -308,7 +308,7 @@ one_spelled {A} {ta} {ra} sa ps x e =
 pub two_spelled : {A B : Type 0} {ta : A → List ℕ} {ra : List ℕ → Option A} {Fa : A → Type 0} {tb : B → List ℕ} {rb : List ℕ → Option B} {Fb : B → Type 0}
     → Spelling ta ra Fa → Spelling tb rb Fb → (ps : List (List ℕ)) (x : A × B) → read_two ra rb ps ≡ Some x → (ps ≡ ta x.0 ∷ tb x.1 ∷ []) × Fa x.0 × Fb x.1
 two_spelled {A} {B} {ta} {ra} {Fa} {tb} {rb} sa sb ps x e =
-    let m = then_some (λ (p : List ℕ × List ℕ). both (ra p.0) (rb p.1)) (two_of ps) x e in
+    let m = then_some (λ (p : List ℕ × List ℕ). all_two (ra p.0) (rb p.1)) (two_of ps) x e in
     let r = both-some (ra m.0.0) (rb m.0.1) x m.2 in
     let a = sa.spelled m.0.0 x.0 r.0 in
     let b = sb.spelled m.0.1 x.1 r.1 in
@@ -337,7 +337,7 @@ one_again sa x f = sa.again x f
 pub two_again : {A B : Type 0} {ta : A → List ℕ} {ra : List ℕ → Option A} {Fa : A → Type 0} {tb : B → List ℕ} {rb : List ℕ → Option B} {Fb : B → Type 0}
     → Spelling ta ra Fa → Spelling tb rb Fb → (x : A) (y : B) → Fa x → Fb y → read_two ra rb (ta x ∷ tb y ∷ []) ≡ Some (x, y)
 two_again {A} {B} {ta} {ra} {Fa} {tb} {rb} sa sb x y f g =
-    ap (λ (o : Option A). both o (rb (tb y))) (sa.again x f) ∙ ap (λ (o : Option B). both (Some x) o) (sb.again y g)
+    ap (λ (o : Option A). all_two o (rb (tb y))) (sa.again x f) ∙ ap (λ (o : Option B). all_two (Some x) o) (sb.again y g)
 
 pub three_again : {A B C : Type 0} {ta : A → List ℕ} {ra : List ℕ → Option A} {Fa : A → Type 0} {tb : B → List ℕ} {rb : List ℕ → Option B} {Fb : B → Type 0}
     {tc : C → List ℕ} {rc : List ℕ → Option C} {Fc : C → Type 0} → Spelling ta ra Fa → Spelling tb rb Fb → Spelling tc rc Fc

@@ -1,7 +1,7 @@
 -- The one line of an instruction in assembly text. This project's own; the instructions are those of RFC 9669.
 use Rattle.std.specs.Prelude.{ℕ, List, [], ◌∷◌, map, decimal}
-use Rattle.std.specs.List.{join_with_byte}
 use Rattle.std.specs.Fmt.{signed_decimal}
+use Rattle.cp_text.specs.Parts.{joined_by}
 use Rattle.bpf_isa.specs.declared.insn.Insn.{Insn}
 use Rattle.bpf_isa.specs.declared.insn.Insn.TheVariants as insn
 use Rattle.bpf_isa.specs.Width.{bits_of}
@@ -80,9 +80,9 @@ operands_of (insn.AtomicFetch op size dst src offset) = Register dst ∷ Signed 
 operands_of (insn.CompareExchange size dst src offset) = Register dst ∷ Signed offset ∷ Register src ∷ []
 
 -- the parts of a line: the mnemonic and the texts of the operands
-abbrev pub parts_of : Insn → List (List ℕ)
-parts_of i = mnemonic_text (mnemonic_of i) ∷ map operand_text (operands_of i)
+abbrev pub line_parts : Insn → List (List ℕ)
+line_parts i = mnemonic_text (mnemonic_of i) ∷ map operand_text (operands_of i)
 
 -- the line of an instruction, without its newline: its parts with one space between two
-abbrev pub line_of : Insn → List ℕ
-line_of i = join_with_byte 32 (parts_of i)
+abbrev pub insn_line : Insn → List ℕ
+insn_line i = joined_by 32 (line_parts i)

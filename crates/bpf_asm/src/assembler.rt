@@ -1,28 +1,24 @@
 //! The code of a text.
-ghost use Rattle.std.specs.Prelude.{◌≡◌, ◌≢◌, true, ℕ, List, ◌+◌, ◌*◌, ◌<◌, ◌≤◌, ◌∷◌, [], ◌++◌, length, Ok, Err, IfOk, OnOk, MatchOption, IfSome};
-ghost use Rattle.bpf_model.specs.Encoding.{IsAllowed, encoding};
+ghost use Rattle.std.specs.Prelude.{◌≡◌, ℕ, ◌<◌, ◌≤◌, ◌++◌, length, IfOk, OnOk};
+ghost use Rattle.cp_text.specs.HexText.{AreBytes};
+ghost use Rattle.bpf_model.specs.Encoding.{encoding};
 ghost use Rattle.bpf_model.specs.Walk.{IsWellFormed};
-ghost use Rattle.bpf_asm.specs.Assembly.{Adds, IsRefused};
-ghost use Rattle.bpf_asm.specs.Reading.{lacks};
+ghost use Rattle.bpf_asm.specs.Assembly.{Adds, AddsNothing};
 ghost use Rattle.bpf_asm.specs.Text.{text_of_code, IsFaultyAt};
 
-use crate::parts::split_part;
 use crate::reading::read_line;
 use bpf_decode::encode;
 use bpf_isa::Insn;
-use cp_base::{Bytes, NoMemory};
-use cp_text::make_room;
+use cp_base::{Bytes, MAX_PROGRAM, NoMemory};
+use cp_text::{make_room, next_line};
 use std::alloc::Global;
 use thiserror::Error;
-
-// The most bytes that code has.
-const CODE_LIMIT: u64 = 65_536;
 
 /// Why a text was not assembled.
 #[derive(Clone, Copy, Debug, PartialEq, Eq, Error)]
 pub enum AsmEnd {
     /// The first faulty line, counted from 1: it is no line of an instruction, it is not ended by a newline,
-    /// or with its bytes the code would have more than 65,536. A text without any line is faulty at 1.
+    /// or with its bytes the code would be longer than a program's. A text without any line is faulty at 1.
     #[error("line {line}: no instruction")]
     Fault { line: u32 },
     /// The memory for the code is not there.
@@ -41,12 +37,13 @@ impl From<NoMemory> for AsmEnd {
     }
 }
 
-/// The code of a text, of at most 65,536 bytes: the code whose one text this is.
+/// The code of a text: the program whose one text this is.
 ///
 /// It fails where the text is of no code, at the first faulty line. Memory is taken for the code.
 pub fn assemble(alloc: Global, text: &Bytes) -> Result<Bytes, AsmEnd>
+    ensures bytes { IfOk result (λ code. AreBytes code.items) }
     ensures well_formed { IfOk result (λ code. IsWellFormed code.items) }
-    ensures limit { IfOk result (λ code. length code.items ≤ 65536) }
+    ensures limit { IfOk result (λ code. length code.items ≤ MAX_PROGRAM) }
     ensures text { IfOk result (λ code. text_of_code code.items ≡ text.now.items) }
     ensures no_fault { OnOk result ((line : ℕ) → IsFaultyAt text.now.items line → ⊥) }
     ensures fault { (line : ℕ) → result ≡ Err (AsmEnd.Fault line) → IsFaultyAt text.now.items line }
@@ -66,22 +63,10 @@ pub fn assemble(alloc: Global, text: &Bytes) -> Result<Bytes, AsmEnd>
     Ok(code)
 }
 
-// A line without its newline, and what stands behind that.
-fn next_line(text: &[u8]) -> Option<(&[u8], &[u8])>
-    ensures whole { MatchOption result (lacks 10 text.now ≡ true) (λ cut. text.now ≡ cut.0.now ++ 10 ∷ cut.1.now) }
-    ensures first { IfSome result (λ cut. lacks 10 cut.0.now ≡ true) }
-{
-    let (line, rest) = split_part(text, b'\n');
-    match rest {
-        Some(rest) => Some((line, rest)),
-        None => None,
-    }
-}
-
 // Adds the bytes of the line of this number.
 fn add_line(code: &mut Bytes, line: &[u8], number: u32) -> Result<(), AsmEnd>
     ensures added { OnOk result (Adds line.now code.old.items code.new.items) }
-    ensures fault { (n : ℕ) → result ≡ Err (AsmEnd.Fault n) → (n ≡ number) × IsRefused line.now code.old.items }
+    ensures fault { (n : ℕ) → result ≡ Err (AsmEnd.Fault n) → (n ≡ number) × AddsNothing line.now code.old.items }
 {
     match read_line(line) {
         Some(insn) => add_insn(code, &insn, number),
@@ -92,11 +77,12 @@ fn add_line(code: &mut Bytes, line: &[u8], number: u32) -> Result<(), AsmEnd>
 // Adds the bytes of the instruction of the line of this number.
 fn add_insn(code: &mut Bytes, insn: &Insn, number: u32) -> Result<(), AsmEnd>
     ensures added { OnOk result (code.new.items ≡ code.old.items ++ encoding insn.now) }
-    ensures limit { OnOk result (length code.new.items ≤ 65536) }
-    ensures fault { (n : ℕ) → result ≡ Err (AsmEnd.Fault n) → (n ≡ number) × (65536 < length (code.old.items ++ encoding insn.now)) }
+    ensures limit { OnOk result (length code.new.items ≤ MAX_PROGRAM) }
+    ensures fault { (n : ℕ) → result ≡ Err (AsmEnd.Fault n) →
+        (n ≡ number) × (MAX_PROGRAM < length (code.old.items ++ encoding insn.now)) }
 {
     let len = code_len(insn);
-    if code.len() > CODE_LIMIT - len {
+    if code.len() > MAX_PROGRAM - len {
         return Err(AsmEnd::Fault { line: number });
     }
     make_room(code, len)?;

@@ -6,15 +6,15 @@ ghost use Rattle.bpf_asm.specs.Text.{line_at, text_of_code};
 use crate::line::push_line;
 use bpf_decode::{DecodeEnd, decode};
 use bpf_isa::Insn;
-use cp_base::{Bytes, NoMemory};
+use cp_base::{Bytes, MAX_PROGRAM, NoMemory};
 use std::alloc::Global;
 
-/// The one text of code of at most 65,536 bytes: a line for each instruction.
+/// The one text of the code of a program: a line for each instruction.
 ///
 /// It fails where the code is not well formed (RFC 9669, section 3), at the first place without a form, as
 /// `decode` does. Memory is taken for the decoded code and for the text.
 pub fn disassemble(alloc: Global, code: &Bytes) -> Result<Bytes, DecodeEnd>
-    requires { length code.now.items ≤ 65536 }
+    requires { length code.now.items ≤ MAX_PROGRAM }
     ensures well_formed { OnOk result (IsWellFormed code.now.items) }
     ensures text { IfOk result (λ text. text.items ≡ text_of_code code.now.items) }
     ensures bad { (place : ℕ) → result ≡ Err (DecodeEnd.BadInsn place) →

@@ -13,7 +13,7 @@ mod source;
 
 pub use assembler::{AsmEnd, assemble};
 pub use disassembler::disassemble;
-pub use laws::{assembly_laws, lines_by_example};
+pub use laws::{assembly_laws, lines_by_example, one_answer};
 pub use line::{LINE_ROOM, append_line, push_line};
 
 #[cfg(test)]

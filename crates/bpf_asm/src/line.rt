@@ -1,13 +1,11 @@
 //! The line of an instruction, written.
 ghost use Rattle.std.specs.Prelude.{◌≡◌, ◌+◌, ◌<◌, ◌≤◌, ◌∷◌, [], ◌++◌, length, OnOk, OnErr};
-ghost use Rattle.bpf_asm.specs.Line.{line_of, mnemonic_of, operands_of};
+ghost use Rattle.bpf_asm.specs.Line.{insn_line, mnemonic_of};
 ghost use Rattle.bpf_asm.specs.Mnemonic.{mnemonic_text};
-ghost use Rattle.bpf_asm.specs.Operands.{operand_list};
-ghost use Rattle.bpf_model.specs.Encoding.{alu_offset};
 
 use crate::mnemonic::Mnemonic;
-use crate::operand::{Operand, Operands, append_operands};
-use bpf_isa::{AluOp, Insn};
+use crate::operand::{Operands, append_operands};
+use bpf_isa::Insn;
 use cp_base::{Bytes, NoMemory};
 use cp_text::make_room;
 
@@ -18,20 +16,20 @@ pub const LINE_ROOM: u64 = 76;
 /// than `LINE_ROOM`.
 pub fn append_line(out: &mut Bytes, insn: &Insn)
     requires { LINE_ROOM ≤ out.old.spare }
-    ensures items { out.new.items ≡ out.old.items ++ (line_of insn.now ++ 10 ∷ []) }
-    ensures spare { out.new.spare + length (line_of insn.now) + 1 ≡ out.old.spare }
+    ensures items { out.new.items ≡ out.old.items ++ (insn_line insn.now ++ 10 ∷ []) }
+    ensures spare { out.new.spare + length (insn_line insn.now) + 1 ≡ out.old.spare }
 {
     append_mnemonic(out, mnemonic(insn));
-    append_operands(out, operands(insn));
+    append_operands(out, Operands::of(insn));
     out.append(b"\n");
 }
 
 /// Adds the line of an instruction and its newline at the end. It is refused only where there is less room
 /// than `LINE_ROOM`.
 pub fn push_line(out: &mut Bytes, insn: &Insn) -> Result<(), NoMemory>
-    ensures items { OnOk result (out.new.items ≡ out.old.items ++ (line_of insn.now ++ 10 ∷ [])) }
+    ensures items { OnOk result (out.new.items ≡ out.old.items ++ (insn_line insn.now ++ 10 ∷ [])) }
     ensures spare { OnOk result (LINE_ROOM ≤ out.old.spare
-        → out.new.spare + length (line_of insn.now) + 1 ≡ out.old.spare) }
+        → out.new.spare + length (insn_line insn.now) + 1 ≡ out.old.spare) }
     ensures full { OnErr result (out.old.spare < LINE_ROOM) }
     ensures unchanged { OnErr result (out.new ≡ out.old) }
 {
@@ -57,13 +55,13 @@ fn mnemonic(insn: &Insn) -> Mnemonic
 {
     match *insn {
         Insn::AluImm { op, wide, .. } | Insn::AluReg { op, wide, .. } => {
-            Mnemonic::Binary { op, wide }
+            Mnemonic::Binary(op, wide)
         }
         Insn::DivImm { op, wide, .. } | Insn::DivReg { op, wide, .. } => {
-            Mnemonic::Division { op, wide }
+            Mnemonic::Division(op, wide)
         }
-        Insn::Neg { wide, .. } => Mnemonic::Negate { wide },
-        Insn::MovImm { wide, .. } | Insn::MovReg { wide, .. } => Mnemonic::Move { wide },
+        Insn::Neg { wide, .. } => Mnemonic::Negate(wide),
+        Insn::MovImm { wide, .. } | Insn::MovReg { wide, .. } => Mnemonic::Move(wide),
         Insn::Movsx32 { .. } => Mnemonic::Extend32,
         Insn::Movsx64 { .. } => Mnemonic::Extend64,
         Insn::ToLittle { .. } => Mnemonic::ToLittle,
@@ -72,137 +70,18 @@ fn mnemonic(insn: &Insn) -> Mnemonic
         Insn::Jump { .. } => Mnemonic::Jump,
         Insn::JumpLong { .. } => Mnemonic::JumpLong,
         Insn::BranchImm { op, wide, .. } | Insn::BranchReg { op, wide, .. } => {
-            Mnemonic::Branch { op, wide }
+            Mnemonic::Branch(op, wide)
         }
         Insn::CallHelper => Mnemonic::CallHelper,
         Insn::CallLocal { .. } => Mnemonic::CallLocal,
         Insn::Exit => Mnemonic::Exit,
         Insn::LoadImm { .. } => Mnemonic::LoadImm,
-        Insn::Load { size, .. } => Mnemonic::Load { size },
-        Insn::LoadSigned { size, .. } => Mnemonic::LoadSigned { size },
-        Insn::StoreImm { size, .. } => Mnemonic::StoreImm { size },
-        Insn::StoreReg { size, .. } => Mnemonic::StoreReg { size },
-        Insn::Atomic { op, size, .. } => Mnemonic::Atomic { op, size },
-        Insn::AtomicFetch { op, size, .. } => Mnemonic::AtomicFetch { op, size },
-        Insn::CompareExchange { size, .. } => Mnemonic::CompareExchange { size },
-    }
-}
-
-// The operands of an instruction, in the order of its line.
-fn operands(insn: &Insn) -> Operands
-    ensures { operand_list result ≡ operands_of insn.now }
-{
-    match *insn {
-        Insn::AluImm { dst, imm, .. }
-        | Insn::DivImm { dst, imm, .. }
-        | Insn::MovImm { dst, imm, .. } => {
-            Operands::Two(Operand::Register(dst), Operand::Signed(imm as i64))
-        }
-        Insn::AluReg { dst, src, .. }
-        | Insn::DivReg { dst, src, .. }
-        | Insn::MovReg { dst, src, .. } => {
-            Operands::Two(Operand::Register(dst), Operand::Register(src))
-        }
-        Insn::Neg { dst, .. } => Operands::One(Operand::Register(dst)),
-        Insn::Movsx32 { op, dst, src } | Insn::Movsx64 { op, dst, src } => Operands::Three(
-            Operand::Register(dst),
-            Operand::Register(src),
-            Operand::Number(move_bits(op)),
-        ),
-        Insn::ToLittle { bits, dst } | Insn::ToBig { bits, dst } | Insn::Swap { bits, dst } => {
-            Operands::Two(Operand::Register(dst), Operand::Number(bits.bits() as u64))
-        }
-        Insn::Jump { offset } => Operands::One(Operand::Signed(offset as i64)),
-        Insn::JumpLong { imm } | Insn::CallLocal { imm } => {
-            Operands::One(Operand::Signed(imm as i64))
-        }
-        Insn::BranchImm {
-            dst,
-            offset,
-            imm,
-            ..
-        } => Operands::Three(
-            Operand::Register(dst),
-            Operand::Signed(imm as i64),
-            Operand::Signed(offset as i64),
-        ),
-        Insn::CallHelper => Operands::One(Operand::Number(1)),
-        Insn::Exit => Operands::Zero,
-        Insn::LoadImm { dst, value } => {
-            Operands::Two(Operand::Register(dst), Operand::Number(value))
-        }
-        Insn::BranchReg {
-            dst,
-            src,
-            offset,
-            ..
-        }
-        | Insn::Load {
-            dst,
-            src,
-            offset,
-            ..
-        }
-        | Insn::LoadSigned {
-            dst,
-            src,
-            offset,
-            ..
-        } => Operands::Three(
-            Operand::Register(dst),
-            Operand::Register(src),
-            Operand::Signed(offset as i64),
-        ),
-        Insn::StoreImm {
-            dst,
-            offset,
-            imm,
-            ..
-        } => Operands::Three(
-            Operand::Register(dst),
-            Operand::Signed(offset as i64),
-            Operand::Signed(imm as i64),
-        ),
-        Insn::StoreReg {
-            dst,
-            src,
-            offset,
-            ..
-        }
-        | Insn::Atomic {
-            dst,
-            src,
-            offset,
-            ..
-        }
-        | Insn::AtomicFetch {
-            dst,
-            src,
-            offset,
-            ..
-        }
-        | Insn::CompareExchange {
-            dst,
-            src,
-            offset,
-            ..
-        } => Operands::Three(
-            Operand::Register(dst),
-            Operand::Signed(offset as i64),
-            Operand::Register(src),
-        ),
-    }
-}
-
-// The bits that a move sign-extends from.
-fn move_bits(op: AluOp) -> u64
-    ensures { result ≡ alu_offset op }
-{
-    match op {
-        AluOp::Movsx8 => 8,
-        AluOp::Movsx16 => 16,
-        AluOp::Movsx32 => 32,
-        AluOp::Sdiv | AluOp::Smod => 1,
-        _ => 0,
+        Insn::Load { size, .. } => Mnemonic::Load(size),
+        Insn::LoadSigned { size, .. } => Mnemonic::LoadSigned(size),
+        Insn::StoreImm { size, .. } => Mnemonic::StoreImm(size),
+        Insn::StoreReg { size, .. } => Mnemonic::StoreReg(size),
+        Insn::Atomic { op, size, .. } => Mnemonic::Atomic(op, size),
+        Insn::AtomicFetch { op, size, .. } => Mnemonic::AtomicFetch(op, size),
+        Insn::CompareExchange { size, .. } => Mnemonic::CompareExchange(size),
     }
 }

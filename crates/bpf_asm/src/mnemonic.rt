@@ -9,17 +9,17 @@ use bpf_isa::{AluOp, AtomicOp, JumpOp, Size};
 /// The first word of a line, which says the form of the instruction and its operation, width or size.
 ///
 /// The second operand of arithmetic and of a jump is a register or a number, so a mnemonic of those
-/// stands for two forms.
+/// stands for two forms. Where one has a `bool`, it says whether the operation is of 64 bits, else of 32.
 #[derive(Clone, Copy)]
 pub enum Mnemonic {
     /// Arithmetic, but divisions and moves.
-    Binary { op: AluOp, wide: bool },
+    Binary(AluOp, bool),
     /// Division or modulo.
-    Division { op: AluOp, wide: bool },
+    Division(AluOp, bool),
     /// Move.
-    Move { wide: bool },
+    Move(bool),
     /// Negation.
-    Negate { wide: bool },
+    Negate(bool),
     /// Move that sign-extends to 32 bits.
     Extend32,
     /// Move that sign-extends to 64 bits.
@@ -33,21 +33,21 @@ pub enum Mnemonic {
     /// Load of an immediate of 64 bits.
     LoadImm,
     /// Load that zero-extends.
-    Load { size: Size },
+    Load(Size),
     /// Load that sign-extends.
-    LoadSigned { size: Size },
+    LoadSigned(Size),
     /// Store of an immediate.
-    StoreImm { size: Size },
+    StoreImm(Size),
     /// Store of a register.
-    StoreReg { size: Size },
+    StoreReg(Size),
     /// Atomic operation without the fetch of the old value.
-    Atomic { op: AtomicOp, size: Size },
+    Atomic(AtomicOp, Size),
     /// Atomic operation or exchange that fetches the old value.
-    AtomicFetch { op: AtomicOp, size: Size },
+    AtomicFetch(AtomicOp, Size),
     /// Compare and exchange.
-    CompareExchange { size: Size },
+    CompareExchange(Size),
     /// Conditional jump.
-    Branch { op: JumpOp, wide: bool },
+    Branch(JumpOp, bool),
     /// Jump by the offset.
     Jump,
     /// Jump by the immediate.
@@ -60,299 +60,101 @@ pub enum Mnemonic {
     Exit,
 }
 
-/// All mnemonics.
+/// All mnemonics, each once.
 pub const MNEMONICS: [Mnemonic; 98] = [
-    Mnemonic::Binary {
-        op: AluOp::Add,
-        wide: true,
-    },
-    Mnemonic::Binary {
-        op: AluOp::Add,
-        wide: false,
-    },
-    Mnemonic::Binary {
-        op: AluOp::Sub,
-        wide: true,
-    },
-    Mnemonic::Binary {
-        op: AluOp::Sub,
-        wide: false,
-    },
-    Mnemonic::Binary {
-        op: AluOp::Mul,
-        wide: true,
-    },
-    Mnemonic::Binary {
-        op: AluOp::Mul,
-        wide: false,
-    },
-    Mnemonic::Binary {
-        op: AluOp::Or,
-        wide: true,
-    },
-    Mnemonic::Binary {
-        op: AluOp::Or,
-        wide: false,
-    },
-    Mnemonic::Binary {
-        op: AluOp::And,
-        wide: true,
-    },
-    Mnemonic::Binary {
-        op: AluOp::And,
-        wide: false,
-    },
-    Mnemonic::Binary {
-        op: AluOp::Lsh,
-        wide: true,
-    },
-    Mnemonic::Binary {
-        op: AluOp::Lsh,
-        wide: false,
-    },
-    Mnemonic::Binary {
-        op: AluOp::Rsh,
-        wide: true,
-    },
-    Mnemonic::Binary {
-        op: AluOp::Rsh,
-        wide: false,
-    },
-    Mnemonic::Binary {
-        op: AluOp::Xor,
-        wide: true,
-    },
-    Mnemonic::Binary {
-        op: AluOp::Xor,
-        wide: false,
-    },
-    Mnemonic::Binary {
-        op: AluOp::Arsh,
-        wide: true,
-    },
-    Mnemonic::Binary {
-        op: AluOp::Arsh,
-        wide: false,
-    },
-    Mnemonic::Division {
-        op: AluOp::Div,
-        wide: true,
-    },
-    Mnemonic::Division {
-        op: AluOp::Div,
-        wide: false,
-    },
-    Mnemonic::Division {
-        op: AluOp::Sdiv,
-        wide: true,
-    },
-    Mnemonic::Division {
-        op: AluOp::Sdiv,
-        wide: false,
-    },
-    Mnemonic::Division {
-        op: AluOp::Mod,
-        wide: true,
-    },
-    Mnemonic::Division {
-        op: AluOp::Mod,
-        wide: false,
-    },
-    Mnemonic::Division {
-        op: AluOp::Smod,
-        wide: true,
-    },
-    Mnemonic::Division {
-        op: AluOp::Smod,
-        wide: false,
-    },
-    Mnemonic::Move { wide: true },
-    Mnemonic::Move { wide: false },
-    Mnemonic::Negate { wide: true },
-    Mnemonic::Negate { wide: false },
+    Mnemonic::Binary(AluOp::Add, true),
+    Mnemonic::Binary(AluOp::Add, false),
+    Mnemonic::Binary(AluOp::Sub, true),
+    Mnemonic::Binary(AluOp::Sub, false),
+    Mnemonic::Binary(AluOp::Mul, true),
+    Mnemonic::Binary(AluOp::Mul, false),
+    Mnemonic::Binary(AluOp::Or, true),
+    Mnemonic::Binary(AluOp::Or, false),
+    Mnemonic::Binary(AluOp::And, true),
+    Mnemonic::Binary(AluOp::And, false),
+    Mnemonic::Binary(AluOp::Lsh, true),
+    Mnemonic::Binary(AluOp::Lsh, false),
+    Mnemonic::Binary(AluOp::Rsh, true),
+    Mnemonic::Binary(AluOp::Rsh, false),
+    Mnemonic::Binary(AluOp::Xor, true),
+    Mnemonic::Binary(AluOp::Xor, false),
+    Mnemonic::Binary(AluOp::Arsh, true),
+    Mnemonic::Binary(AluOp::Arsh, false),
+    Mnemonic::Division(AluOp::Div, true),
+    Mnemonic::Division(AluOp::Div, false),
+    Mnemonic::Division(AluOp::Sdiv, true),
+    Mnemonic::Division(AluOp::Sdiv, false),
+    Mnemonic::Division(AluOp::Mod, true),
+    Mnemonic::Division(AluOp::Mod, false),
+    Mnemonic::Division(AluOp::Smod, true),
+    Mnemonic::Division(AluOp::Smod, false),
+    Mnemonic::Move(true),
+    Mnemonic::Move(false),
+    Mnemonic::Negate(true),
+    Mnemonic::Negate(false),
     Mnemonic::Extend32,
     Mnemonic::Extend64,
     Mnemonic::ToLittle,
     Mnemonic::ToBig,
     Mnemonic::Swap,
     Mnemonic::LoadImm,
-    Mnemonic::Load { size: Size::B },
-    Mnemonic::Load { size: Size::H },
-    Mnemonic::Load { size: Size::W },
-    Mnemonic::Load { size: Size::D },
-    Mnemonic::LoadSigned { size: Size::B },
-    Mnemonic::LoadSigned { size: Size::H },
-    Mnemonic::LoadSigned { size: Size::W },
-    Mnemonic::StoreImm { size: Size::B },
-    Mnemonic::StoreImm { size: Size::H },
-    Mnemonic::StoreImm { size: Size::W },
-    Mnemonic::StoreImm { size: Size::D },
-    Mnemonic::StoreReg { size: Size::B },
-    Mnemonic::StoreReg { size: Size::H },
-    Mnemonic::StoreReg { size: Size::W },
-    Mnemonic::StoreReg { size: Size::D },
-    Mnemonic::Atomic {
-        op: AtomicOp::Add,
-        size: Size::W,
-    },
-    Mnemonic::Atomic {
-        op: AtomicOp::Add,
-        size: Size::D,
-    },
-    Mnemonic::Atomic {
-        op: AtomicOp::Or,
-        size: Size::W,
-    },
-    Mnemonic::Atomic {
-        op: AtomicOp::Or,
-        size: Size::D,
-    },
-    Mnemonic::Atomic {
-        op: AtomicOp::And,
-        size: Size::W,
-    },
-    Mnemonic::Atomic {
-        op: AtomicOp::And,
-        size: Size::D,
-    },
-    Mnemonic::Atomic {
-        op: AtomicOp::Xor,
-        size: Size::W,
-    },
-    Mnemonic::Atomic {
-        op: AtomicOp::Xor,
-        size: Size::D,
-    },
-    Mnemonic::AtomicFetch {
-        op: AtomicOp::Add,
-        size: Size::W,
-    },
-    Mnemonic::AtomicFetch {
-        op: AtomicOp::Add,
-        size: Size::D,
-    },
-    Mnemonic::AtomicFetch {
-        op: AtomicOp::Or,
-        size: Size::W,
-    },
-    Mnemonic::AtomicFetch {
-        op: AtomicOp::Or,
-        size: Size::D,
-    },
-    Mnemonic::AtomicFetch {
-        op: AtomicOp::And,
-        size: Size::W,
-    },
-    Mnemonic::AtomicFetch {
-        op: AtomicOp::And,
-        size: Size::D,
-    },
-    Mnemonic::AtomicFetch {
-        op: AtomicOp::Xor,
-        size: Size::W,
-    },
-    Mnemonic::AtomicFetch {
-        op: AtomicOp::Xor,
-        size: Size::D,
-    },
-    Mnemonic::AtomicFetch {
-        op: AtomicOp::Xchg,
-        size: Size::W,
-    },
-    Mnemonic::AtomicFetch {
-        op: AtomicOp::Xchg,
-        size: Size::D,
-    },
-    Mnemonic::CompareExchange { size: Size::W },
-    Mnemonic::CompareExchange { size: Size::D },
-    Mnemonic::Branch {
-        op: JumpOp::Jeq,
-        wide: true,
-    },
-    Mnemonic::Branch {
-        op: JumpOp::Jeq,
-        wide: false,
-    },
-    Mnemonic::Branch {
-        op: JumpOp::Jgt,
-        wide: true,
-    },
-    Mnemonic::Branch {
-        op: JumpOp::Jgt,
-        wide: false,
-    },
-    Mnemonic::Branch {
-        op: JumpOp::Jge,
-        wide: true,
-    },
-    Mnemonic::Branch {
-        op: JumpOp::Jge,
-        wide: false,
-    },
-    Mnemonic::Branch {
-        op: JumpOp::Jset,
-        wide: true,
-    },
-    Mnemonic::Branch {
-        op: JumpOp::Jset,
-        wide: false,
-    },
-    Mnemonic::Branch {
-        op: JumpOp::Jne,
-        wide: true,
-    },
-    Mnemonic::Branch {
-        op: JumpOp::Jne,
-        wide: false,
-    },
-    Mnemonic::Branch {
-        op: JumpOp::Jsgt,
-        wide: true,
-    },
-    Mnemonic::Branch {
-        op: JumpOp::Jsgt,
-        wide: false,
-    },
-    Mnemonic::Branch {
-        op: JumpOp::Jsge,
-        wide: true,
-    },
-    Mnemonic::Branch {
-        op: JumpOp::Jsge,
-        wide: false,
-    },
-    Mnemonic::Branch {
-        op: JumpOp::Jlt,
-        wide: true,
-    },
-    Mnemonic::Branch {
-        op: JumpOp::Jlt,
-        wide: false,
-    },
-    Mnemonic::Branch {
-        op: JumpOp::Jle,
-        wide: true,
-    },
-    Mnemonic::Branch {
-        op: JumpOp::Jle,
-        wide: false,
-    },
-    Mnemonic::Branch {
-        op: JumpOp::Jslt,
-        wide: true,
-    },
-    Mnemonic::Branch {
-        op: JumpOp::Jslt,
-        wide: false,
-    },
-    Mnemonic::Branch {
-        op: JumpOp::Jsle,
-        wide: true,
-    },
-    Mnemonic::Branch {
-        op: JumpOp::Jsle,
-        wide: false,
-    },
+    Mnemonic::Load(Size::B),
+    Mnemonic::Load(Size::H),
+    Mnemonic::Load(Size::W),
+    Mnemonic::Load(Size::D),
+    Mnemonic::LoadSigned(Size::B),
+    Mnemonic::LoadSigned(Size::H),
+    Mnemonic::LoadSigned(Size::W),
+    Mnemonic::StoreImm(Size::B),
+    Mnemonic::StoreImm(Size::H),
+    Mnemonic::StoreImm(Size::W),
+    Mnemonic::StoreImm(Size::D),
+    Mnemonic::StoreReg(Size::B),
+    Mnemonic::StoreReg(Size::H),
+    Mnemonic::StoreReg(Size::W),
+    Mnemonic::StoreReg(Size::D),
+    Mnemonic::Atomic(AtomicOp::Add, Size::W),
+    Mnemonic::Atomic(AtomicOp::Add, Size::D),
+    Mnemonic::Atomic(AtomicOp::Or, Size::W),
+    Mnemonic::Atomic(AtomicOp::Or, Size::D),
+    Mnemonic::Atomic(AtomicOp::And, Size::W),
+    Mnemonic::Atomic(AtomicOp::And, Size::D),
+    Mnemonic::Atomic(AtomicOp::Xor, Size::W),
+    Mnemonic::Atomic(AtomicOp::Xor, Size::D),
+    Mnemonic::AtomicFetch(AtomicOp::Add, Size::W),
+    Mnemonic::AtomicFetch(AtomicOp::Add, Size::D),
+    Mnemonic::AtomicFetch(AtomicOp::Or, Size::W),
+    Mnemonic::AtomicFetch(AtomicOp::Or, Size::D),
+    Mnemonic::AtomicFetch(AtomicOp::And, Size::W),
+    Mnemonic::AtomicFetch(AtomicOp::And, Size::D),
+    Mnemonic::AtomicFetch(AtomicOp::Xor, Size::W),
+    Mnemonic::AtomicFetch(AtomicOp::Xor, Size::D),
+    Mnemonic::AtomicFetch(AtomicOp::Xchg, Size::W),
+    Mnemonic::AtomicFetch(AtomicOp::Xchg, Size::D),
+    Mnemonic::CompareExchange(Size::W),
+    Mnemonic::CompareExchange(Size::D),
+    Mnemonic::Branch(JumpOp::Jeq, true),
+    Mnemonic::Branch(JumpOp::Jeq, false),
+    Mnemonic::Branch(JumpOp::Jgt, true),
+    Mnemonic::Branch(JumpOp::Jgt, false),
+    Mnemonic::Branch(JumpOp::Jge, true),
+    Mnemonic::Branch(JumpOp::Jge, false),
+    Mnemonic::Branch(JumpOp::Jset, true),
+    Mnemonic::Branch(JumpOp::Jset, false),
+    Mnemonic::Branch(JumpOp::Jne, true),
+    Mnemonic::Branch(JumpOp::Jne, false),
+    Mnemonic::Branch(JumpOp::Jsgt, true),
+    Mnemonic::Branch(JumpOp::Jsgt, false),
+    Mnemonic::Branch(JumpOp::Jsge, true),
+    Mnemonic::Branch(JumpOp::Jsge, false),
+    Mnemonic::Branch(JumpOp::Jlt, true),
+    Mnemonic::Branch(JumpOp::Jlt, false),
+    Mnemonic::Branch(JumpOp::Jle, true),
+    Mnemonic::Branch(JumpOp::Jle, false),
+    Mnemonic::Branch(JumpOp::Jslt, true),
+    Mnemonic::Branch(JumpOp::Jslt, false),
+    Mnemonic::Branch(JumpOp::Jsle, true),
+    Mnemonic::Branch(JumpOp::Jsle, false),
     Mnemonic::Jump,
     Mnemonic::JumpLong,
     Mnemonic::CallHelper,
@@ -374,22 +176,22 @@ impl Mnemonic {
         ensures len { length result.now ≤ 7 }
     {
         match self {
-            Mnemonic::Binary { op, .. } | Mnemonic::Division { op, .. } => alu_name(op),
-            Mnemonic::Move { .. } => alu_name(AluOp::Mov),
-            Mnemonic::Negate { .. } => alu_name(AluOp::Neg),
+            Mnemonic::Binary(op, _) | Mnemonic::Division(op, _) => alu_name(op),
+            Mnemonic::Move(_) => alu_name(AluOp::Mov),
+            Mnemonic::Negate(_) => alu_name(AluOp::Neg),
             Mnemonic::Extend32 | Mnemonic::Extend64 => b"movsx",
             Mnemonic::ToLittle => b"le",
             Mnemonic::ToBig => b"be",
             Mnemonic::Swap => b"swap",
             Mnemonic::LoadImm => b"lddw",
-            Mnemonic::Load { .. } => b"ldx",
-            Mnemonic::LoadSigned { .. } => b"ldsx",
-            Mnemonic::StoreImm { .. } => b"st",
-            Mnemonic::StoreReg { .. } => b"stx",
-            Mnemonic::Atomic { op, .. } => atomic_name(op),
-            Mnemonic::AtomicFetch { op, .. } => fetch_name(op),
-            Mnemonic::CompareExchange { .. } => b"cmpxchg",
-            Mnemonic::Branch { op, .. } => jump_name(op),
+            Mnemonic::Load(_) => b"ldx",
+            Mnemonic::LoadSigned(_) => b"ldsx",
+            Mnemonic::StoreImm(_) => b"st",
+            Mnemonic::StoreReg(_) => b"stx",
+            Mnemonic::Atomic(op, _) => atomic_name(op),
+            Mnemonic::AtomicFetch(op, _) => fetch_name(op),
+            Mnemonic::CompareExchange(_) => b"cmpxchg",
+            Mnemonic::Branch(op, _) => jump_name(op),
             Mnemonic::Jump => b"ja",
             Mnemonic::JumpLong => b"jal",
             Mnemonic::CallHelper => b"call",
@@ -404,20 +206,20 @@ impl Mnemonic {
         ensures len { length result.now ≤ 2 }
     {
         match self {
-            Mnemonic::Binary { wide, .. }
-            | Mnemonic::Division { wide, .. }
-            | Mnemonic::Move { wide }
-            | Mnemonic::Negate { wide }
-            | Mnemonic::Branch { wide, .. } => width_text(wide),
+            Mnemonic::Binary(_, wide)
+            | Mnemonic::Division(_, wide)
+            | Mnemonic::Move(wide)
+            | Mnemonic::Negate(wide)
+            | Mnemonic::Branch(_, wide) => width_text(wide),
             Mnemonic::Extend32 => width_text(false),
             Mnemonic::Extend64 => width_text(true),
-            Mnemonic::Load { size }
-            | Mnemonic::LoadSigned { size }
-            | Mnemonic::StoreImm { size }
-            | Mnemonic::StoreReg { size }
-            | Mnemonic::Atomic { size, .. }
-            | Mnemonic::AtomicFetch { size, .. }
-            | Mnemonic::CompareExchange { size } => size_text(size),
+            Mnemonic::Load(size)
+            | Mnemonic::LoadSigned(size)
+            | Mnemonic::StoreImm(size)
+            | Mnemonic::StoreReg(size)
+            | Mnemonic::Atomic(_, size)
+            | Mnemonic::AtomicFetch(_, size)
+            | Mnemonic::CompareExchange(size) => size_text(size),
             Mnemonic::ToLittle
             | Mnemonic::ToBig
             | Mnemonic::Swap

@@ -1,14 +1,15 @@
 //! The instruction of a line, read.
 ghost use Rattle.std.specs.Prelude.{◌≡◌, ◌≤◌, Some, option_map};
 ghost use Rattle.bpf_asm.specs.Reading as spec;
-ghost use Rattle.bpf_asm.specs.Reading.{exit_of, helper_named, insn_in, insn_of, imm_of, move_to_32, move_to_64, offset_of, parts_between, parts_in, read_one, read_three, read_two, register_of, source_of};
+ghost use Rattle.bpf_asm.specs.Reading.{exit_of, helper_named, insn_in, insn_with, imm_in, move_to_32, move_to_64, offset_in, read_one, read_three, read_two, register_in, source_in};
 ghost use Rattle.cp_text.specs.Number.{number_of};
+ghost use Rattle.cp_text.specs.Parts.{parts_between, parts_in};
 
 use crate::mnemonic::Mnemonic;
-use crate::parts::{one, split_part, three, two};
+use crate::parts::{one, three, two};
 use crate::source::{Source, helper, imm, move_to_32, move_to_64, offset, register, swap_bits};
 use bpf_isa::{AluOp, AtomicOp, Insn, JumpOp, Reg, Size, Width};
-use cp_text::number;
+use cp_text::{number, split_part};
 
 /// The instruction of a line without its newline, or `None` where the line is no instruction's.
 pub fn read_line(line: &[u8]) -> Option<Insn>
@@ -20,27 +21,27 @@ pub fn read_line(line: &[u8]) -> Option<Insn>
 
 // The instruction of a mnemonic with the text of its operands.
 fn read_operands(mnemonic: Mnemonic, text: Option<&[u8]>) -> Option<Insn>
-    ensures { result ≡ insn_of mnemonic (parts_in 32 (option_map (λ t. t.now) text.entry)) }
+    ensures { result ≡ insn_with mnemonic (parts_in 32 (option_map (λ t. t.now) text.entry)) }
 {
     match mnemonic {
-        Mnemonic::Binary { op, wide } => binary(op, wide, text),
-        Mnemonic::Division { op, wide } => division(op, wide, text),
-        Mnemonic::Move { wide } => move_of(wide, text),
-        Mnemonic::Negate { wide } => negation(wide, text),
+        Mnemonic::Binary(op, wide) => binary(op, wide, text),
+        Mnemonic::Division(op, wide) => division(op, wide, text),
+        Mnemonic::Move(wide) => move_of(wide, text),
+        Mnemonic::Negate(wide) => negation(wide, text),
         Mnemonic::Extend32 => extension_to_32(text),
         Mnemonic::Extend64 => extension_to_64(text),
         Mnemonic::ToLittle => to_little(text),
         Mnemonic::ToBig => to_big(text),
         Mnemonic::Swap => swap(text),
         Mnemonic::LoadImm => load_imm(text),
-        Mnemonic::Load { size } => load(size, text),
-        Mnemonic::LoadSigned { size } => load_signed(size, text),
-        Mnemonic::StoreImm { size } => store_imm(size, text),
-        Mnemonic::StoreReg { size } => store_reg(size, text),
-        Mnemonic::Atomic { op, size } => atomic(op, size, text),
-        Mnemonic::AtomicFetch { op, size } => atomic_fetch(op, size, text),
-        Mnemonic::CompareExchange { size } => compare_exchange(size, text),
-        Mnemonic::Branch { op, wide } => branch(op, wide, text),
+        Mnemonic::Load(size) => load(size, text),
+        Mnemonic::LoadSigned(size) => load_signed(size, text),
+        Mnemonic::StoreImm(size) => store_imm(size, text),
+        Mnemonic::StoreReg(size) => store_reg(size, text),
+        Mnemonic::Atomic(op, size) => atomic(op, size, text),
+        Mnemonic::AtomicFetch(op, size) => atomic_fetch(op, size, text),
+        Mnemonic::CompareExchange(size) => compare_exchange(size, text),
+        Mnemonic::Branch(op, wide) => branch(op, wide, text),
         Mnemonic::Jump => jump(text),
         Mnemonic::JumpLong => jump_long(text),
         Mnemonic::CallHelper => call_helper(text),
@@ -88,7 +89,7 @@ fn dst_offset_src(text: Option<&[u8]>, greatest: u8) -> Option<(Reg, i16, Reg)>
 
 // Arithmetic, but divisions and moves.
 fn binary(op: AluOp, wide: bool, text: Option<&[u8]>) -> Option<Insn>
-    ensures { result ≡ insn_of (Mnemonic.Binary op wide) (parts_in 32 (option_map (λ t. t.now) text.entry)) }
+    ensures { result ≡ insn_with (Mnemonic.Binary op wide) (parts_in 32 (option_map (λ t. t.now) text.entry)) }
 {
     let (dst, source) = dst_source(text)?;
     Some(match source {
@@ -99,7 +100,7 @@ fn binary(op: AluOp, wide: bool, text: Option<&[u8]>) -> Option<Insn>
 
 // Division or modulo.
 fn division(op: AluOp, wide: bool, text: Option<&[u8]>) -> Option<Insn>
-    ensures { result ≡ insn_of (Mnemonic.Division op wide) (parts_in 32 (option_map (λ t. t.now) text.entry)) }
+    ensures { result ≡ insn_with (Mnemonic.Division op wide) (parts_in 32 (option_map (λ t. t.now) text.entry)) }
 {
     let (dst, source) = dst_source(text)?;
     Some(match source {
@@ -110,7 +111,7 @@ fn division(op: AluOp, wide: bool, text: Option<&[u8]>) -> Option<Insn>
 
 // Move.
 fn move_of(wide: bool, text: Option<&[u8]>) -> Option<Insn>
-    ensures { result ≡ insn_of (Mnemonic.Move wide) (parts_in 32 (option_map (λ t. t.now) text.entry)) }
+    ensures { result ≡ insn_with (Mnemonic.Move wide) (parts_in 32 (option_map (λ t. t.now) text.entry)) }
 {
     let (dst, source) = dst_source(text)?;
     Some(match source {
@@ -121,7 +122,7 @@ fn move_of(wide: bool, text: Option<&[u8]>) -> Option<Insn>
 
 // Negation.
 fn negation(wide: bool, text: Option<&[u8]>) -> Option<Insn>
-    ensures { result ≡ insn_of (Mnemonic.Negate wide) (parts_in 32 (option_map (λ t. t.now) text.entry)) }
+    ensures { result ≡ insn_with (Mnemonic.Negate wide) (parts_in 32 (option_map (λ t. t.now) text.entry)) }
 {
     let dst = register(one(text)?, 9)?;
     Some(Insn::Neg { wide, dst })
@@ -129,7 +130,7 @@ fn negation(wide: bool, text: Option<&[u8]>) -> Option<Insn>
 
 // Move that sign-extends to 32 bits.
 fn extension_to_32(text: Option<&[u8]>) -> Option<Insn>
-    ensures { result ≡ insn_of Mnemonic.Extend32 (parts_in 32 (option_map (λ t. t.now) text.entry)) }
+    ensures { result ≡ insn_with Mnemonic.Extend32 (parts_in 32 (option_map (λ t. t.now) text.entry)) }
 {
     let (dst, src, bits) = three(text)?;
     let dst = register(dst, 9)?;
@@ -140,7 +141,7 @@ fn extension_to_32(text: Option<&[u8]>) -> Option<Insn>
 
 // Move that sign-extends to 64 bits.
 fn extension_to_64(text: Option<&[u8]>) -> Option<Insn>
-    ensures { result ≡ insn_of Mnemonic.Extend64 (parts_in 32 (option_map (λ t. t.now) text.entry)) }
+    ensures { result ≡ insn_with Mnemonic.Extend64 (parts_in 32 (option_map (λ t. t.now) text.entry)) }
 {
     let (dst, src, bits) = three(text)?;
     let dst = register(dst, 9)?;
@@ -151,7 +152,7 @@ fn extension_to_64(text: Option<&[u8]>) -> Option<Insn>
 
 // Low bits to little-endian order.
 fn to_little(text: Option<&[u8]>) -> Option<Insn>
-    ensures { result ≡ insn_of Mnemonic.ToLittle (parts_in 32 (option_map (λ t. t.now) text.entry)) }
+    ensures { result ≡ insn_with Mnemonic.ToLittle (parts_in 32 (option_map (λ t. t.now) text.entry)) }
 {
     let (dst, bits) = dst_bits(text)?;
     Some(Insn::ToLittle { bits, dst })
@@ -159,7 +160,7 @@ fn to_little(text: Option<&[u8]>) -> Option<Insn>
 
 // Low bits to big-endian order.
 fn to_big(text: Option<&[u8]>) -> Option<Insn>
-    ensures { result ≡ insn_of Mnemonic.ToBig (parts_in 32 (option_map (λ t. t.now) text.entry)) }
+    ensures { result ≡ insn_with Mnemonic.ToBig (parts_in 32 (option_map (λ t. t.now) text.entry)) }
 {
     let (dst, bits) = dst_bits(text)?;
     Some(Insn::ToBig { bits, dst })
@@ -167,7 +168,7 @@ fn to_big(text: Option<&[u8]>) -> Option<Insn>
 
 // Low bytes in reverse order.
 fn swap(text: Option<&[u8]>) -> Option<Insn>
-    ensures { result ≡ insn_of Mnemonic.Swap (parts_in 32 (option_map (λ t. t.now) text.entry)) }
+    ensures { result ≡ insn_with Mnemonic.Swap (parts_in 32 (option_map (λ t. t.now) text.entry)) }
 {
     let (dst, bits) = dst_bits(text)?;
     Some(Insn::Swap { bits, dst })
@@ -175,7 +176,7 @@ fn swap(text: Option<&[u8]>) -> Option<Insn>
 
 // Load of an immediate of 64 bits.
 fn load_imm(text: Option<&[u8]>) -> Option<Insn>
-    ensures { result ≡ insn_of Mnemonic.LoadImm (parts_in 32 (option_map (λ t. t.now) text.entry)) }
+    ensures { result ≡ insn_with Mnemonic.LoadImm (parts_in 32 (option_map (λ t. t.now) text.entry)) }
 {
     let (dst, value) = two(text)?;
     let dst = register(dst, 9)?;
@@ -185,7 +186,7 @@ fn load_imm(text: Option<&[u8]>) -> Option<Insn>
 
 // Load that zero-extends.
 fn load(size: Size, text: Option<&[u8]>) -> Option<Insn>
-    ensures { result ≡ insn_of (Mnemonic.Load size) (parts_in 32 (option_map (λ t. t.now) text.entry)) }
+    ensures { result ≡ insn_with (Mnemonic.Load size) (parts_in 32 (option_map (λ t. t.now) text.entry)) }
 {
     let (dst, src, offset) = dst_src_offset(text)?;
     Some(Insn::Load {
@@ -198,7 +199,7 @@ fn load(size: Size, text: Option<&[u8]>) -> Option<Insn>
 
 // Load that sign-extends.
 fn load_signed(size: Size, text: Option<&[u8]>) -> Option<Insn>
-    ensures { result ≡ insn_of (Mnemonic.LoadSigned size) (parts_in 32 (option_map (λ t. t.now) text.entry)) }
+    ensures { result ≡ insn_with (Mnemonic.LoadSigned size) (parts_in 32 (option_map (λ t. t.now) text.entry)) }
 {
     let (dst, src, offset) = dst_src_offset(text)?;
     Some(Insn::LoadSigned {
@@ -211,7 +212,7 @@ fn load_signed(size: Size, text: Option<&[u8]>) -> Option<Insn>
 
 // Store of an immediate.
 fn store_imm(size: Size, text: Option<&[u8]>) -> Option<Insn>
-    ensures { result ≡ insn_of (Mnemonic.StoreImm size) (parts_in 32 (option_map (λ t. t.now) text.entry)) }
+    ensures { result ≡ insn_with (Mnemonic.StoreImm size) (parts_in 32 (option_map (λ t. t.now) text.entry)) }
 {
     let (dst, distance, value) = three(text)?;
     let dst = register(dst, 10)?;
@@ -227,7 +228,7 @@ fn store_imm(size: Size, text: Option<&[u8]>) -> Option<Insn>
 
 // Store of a register.
 fn store_reg(size: Size, text: Option<&[u8]>) -> Option<Insn>
-    ensures { result ≡ insn_of (Mnemonic.StoreReg size) (parts_in 32 (option_map (λ t. t.now) text.entry)) }
+    ensures { result ≡ insn_with (Mnemonic.StoreReg size) (parts_in 32 (option_map (λ t. t.now) text.entry)) }
 {
     let (dst, offset, src) = dst_offset_src(text, 10)?;
     Some(Insn::StoreReg {
@@ -240,7 +241,7 @@ fn store_reg(size: Size, text: Option<&[u8]>) -> Option<Insn>
 
 // Atomic operation without the fetch of the old value.
 fn atomic(op: AtomicOp, size: Size, text: Option<&[u8]>) -> Option<Insn>
-    ensures { result ≡ insn_of (Mnemonic.Atomic op size) (parts_in 32 (option_map (λ t. t.now) text.entry)) }
+    ensures { result ≡ insn_with (Mnemonic.Atomic op size) (parts_in 32 (option_map (λ t. t.now) text.entry)) }
 {
     let (dst, offset, src) = dst_offset_src(text, 10)?;
     Some(Insn::Atomic {
@@ -254,7 +255,7 @@ fn atomic(op: AtomicOp, size: Size, text: Option<&[u8]>) -> Option<Insn>
 
 // Atomic operation or exchange that fetches the old value into the source.
 fn atomic_fetch(op: AtomicOp, size: Size, text: Option<&[u8]>) -> Option<Insn>
-    ensures { result ≡ insn_of (Mnemonic.AtomicFetch op size) (parts_in 32 (option_map (λ t. t.now) text.entry)) }
+    ensures { result ≡ insn_with (Mnemonic.AtomicFetch op size) (parts_in 32 (option_map (λ t. t.now) text.entry)) }
 {
     let (dst, offset, src) = dst_offset_src(text, 9)?;
     Some(Insn::AtomicFetch {
@@ -268,7 +269,7 @@ fn atomic_fetch(op: AtomicOp, size: Size, text: Option<&[u8]>) -> Option<Insn>
 
 // Compare and exchange.
 fn compare_exchange(size: Size, text: Option<&[u8]>) -> Option<Insn>
-    ensures { result ≡ insn_of (Mnemonic.CompareExchange size) (parts_in 32 (option_map (λ t. t.now) text.entry)) }
+    ensures { result ≡ insn_with (Mnemonic.CompareExchange size) (parts_in 32 (option_map (λ t. t.now) text.entry)) }
 {
     let (dst, offset, src) = dst_offset_src(text, 10)?;
     Some(Insn::CompareExchange {
@@ -281,7 +282,7 @@ fn compare_exchange(size: Size, text: Option<&[u8]>) -> Option<Insn>
 
 // Conditional jump.
 fn branch(op: JumpOp, wide: bool, text: Option<&[u8]>) -> Option<Insn>
-    ensures { result ≡ insn_of (Mnemonic.Branch op wide) (parts_in 32 (option_map (λ t. t.now) text.entry)) }
+    ensures { result ≡ insn_with (Mnemonic.Branch op wide) (parts_in 32 (option_map (λ t. t.now) text.entry)) }
 {
     let (dst, source, distance) = three(text)?;
     let dst = register(dst, 10)?;
@@ -307,7 +308,7 @@ fn branch(op: JumpOp, wide: bool, text: Option<&[u8]>) -> Option<Insn>
 
 // Jump by the offset.
 fn jump(text: Option<&[u8]>) -> Option<Insn>
-    ensures { result ≡ insn_of Mnemonic.Jump (parts_in 32 (option_map (λ t. t.now) text.entry)) }
+    ensures { result ≡ insn_with Mnemonic.Jump (parts_in 32 (option_map (λ t. t.now) text.entry)) }
 {
     let offset = offset(one(text)?)?;
     Some(Insn::Jump { offset })
@@ -315,7 +316,7 @@ fn jump(text: Option<&[u8]>) -> Option<Insn>
 
 // Jump by the immediate.
 fn jump_long(text: Option<&[u8]>) -> Option<Insn>
-    ensures { result ≡ insn_of Mnemonic.JumpLong (parts_in 32 (option_map (λ t. t.now) text.entry)) }
+    ensures { result ≡ insn_with Mnemonic.JumpLong (parts_in 32 (option_map (λ t. t.now) text.entry)) }
 {
     let imm = imm(one(text)?)?;
     Some(Insn::JumpLong { imm })
@@ -323,7 +324,7 @@ fn jump_long(text: Option<&[u8]>) -> Option<Insn>
 
 // Call of the only helper.
 fn call_helper(text: Option<&[u8]>) -> Option<Insn>
-    ensures { result ≡ insn_of Mnemonic.CallHelper (parts_in 32 (option_map (λ t. t.now) text.entry)) }
+    ensures { result ≡ insn_with Mnemonic.CallHelper (parts_in 32 (option_map (λ t. t.now) text.entry)) }
 {
     let _number = helper(one(text)?)?;
     Some(Insn::CallHelper)
@@ -331,16 +332,16 @@ fn call_helper(text: Option<&[u8]>) -> Option<Insn>
 
 // Call of a function of the same program.
 fn call_local(text: Option<&[u8]>) -> Option<Insn>
-    ensures { result ≡ insn_of Mnemonic.CallLocal (parts_in 32 (option_map (λ t. t.now) text.entry)) }
+    ensures { result ≡ insn_with Mnemonic.CallLocal (parts_in 32 (option_map (λ t. t.now) text.entry)) }
 {
     let imm = imm(one(text)?)?;
     Some(Insn::CallLocal { imm })
 }
 
 // Return.
-#[tactic(auto, using(crate::proofs::CutTexts::is_some_part))]
+#[tactic(auto, using(crate::proofs::SpacedParts::is_some_part))]
 fn exit(text: Option<&[u8]>) -> Option<Insn>
-    ensures { result ≡ insn_of Mnemonic.Exit (parts_in 32 (option_map (λ t. t.now) text.entry)) }
+    ensures { result ≡ insn_with Mnemonic.Exit (parts_in 32 (option_map (λ t. t.now) text.entry)) }
 {
     if text.is_some() {
         return None;

@@ -3,7 +3,7 @@ ghost use Rattle.std.specs.Prelude.{◌≡◌, ◌^◌, ◌≤◌, ℕ, Some, op
 ghost use Rattle.cp_text.specs.Number.{number_of};
 ghost use Rattle.bpf_model.specs.Form.{named, swap_imms, move_offsets_32, move_offsets_64};
 ghost use Rattle.bpf_asm.specs.Reading as spec;
-ghost use Rattle.bpf_asm.specs.Reading.{at_most, below, helper_named, imm_of, offset_of, register_of, source_of};
+ghost use Rattle.bpf_asm.specs.Reading.{at_most, below, helper_named, imm_in, offset_in, register_in, source_in};
 
 use bpf_isa::{AluOp, Reg, Width};
 use cp_text::{number, signed};
@@ -18,7 +18,7 @@ pub enum Source {
 impl Source {
     /// The register or the immediate of a text, or `None` where the text is neither.
     pub fn of(text: &[u8]) -> Option<Source>
-        ensures { result ≡ source_of text.now }
+        ensures { result ≡ source_in text.now }
     {
         match text.first() {
             None => None,
@@ -31,7 +31,7 @@ impl Source {
 /// The register of a text, or `None` where the text is none or its number is above the greatest.
 pub fn register(text: &[u8], greatest: u8) -> Option<Reg>
     requires { greatest ≤ 10 }
-    ensures { result ≡ register_of greatest text.now }
+    ensures { result ≡ register_in greatest text.now }
 {
     match text.first() {
         None => None,
@@ -54,7 +54,7 @@ fn numbered(n: Option<u64>, greatest: u8) -> Option<Reg>
 
 /// The offset of a text, or `None` where the text is none of 16 bits.
 pub fn offset(text: &[u8]) -> Option<i16>
-    ensures { result ≡ offset_of text.now }
+    ensures { result ≡ offset_in text.now }
 {
     short(signed(text))
 }
@@ -72,7 +72,7 @@ fn short(n: Option<i64>) -> Option<i16>
 
 /// The immediate of a text, or `None` where the text is none of 32 bits.
 pub fn imm(text: &[u8]) -> Option<i32>
-    ensures { result ≡ imm_of text.now }
+    ensures { result ≡ imm_in text.now }
 {
     long(signed(text))
 }

@@ -1,6 +1,6 @@
 use super::*;
 use bpf_decode::DecodeEnd;
-use cp_base::Bytes;
+use cp_base::{Bytes, MAX_PROGRAM};
 use cp_text::push_piece;
 use std::alloc::Global;
 use std::process::Abort;
@@ -327,7 +327,7 @@ fn code_of(rt: &impl Abort, alloc: Global, text: &[u8]) -> Result<Bytes, u32> {
 
 // The text of a code, or its bad place.
 fn text_of(rt: &impl Abort, alloc: Global, code: &[u8]) -> Result<Bytes, u32> {
-    assert!(rt; code.len() <= 65536);
+    assert!(rt; code.len() as u64 <= MAX_PROGRAM);
     let code = Bytes::from_slice(alloc, code).expect(rt, "memory for the code");
     match disassemble(alloc, &code) {
         Ok(text) => Ok(text),
@@ -422,20 +422,40 @@ fn the_first_faulty_line_is_told(rt: HostRuntime) {
     }
 }
 
-#[test]
-fn code_ends_at_65536_bytes(rt: HostRuntime) -> Result<(), Fail> {
-    let mut text = Bytes::new(rt.alloc());
+// 8,191 lines, whose code has 65,528 bytes.
+fn one_line_short(rt: &impl Abort, alloc: Global) -> Bytes {
+    let mut text = Bytes::new(alloc);
     for _ in 0..8191 {
-        push_piece(&mut text, b"exit\n")?;
+        assert!(rt; push_piece(&mut text, b"exit\n").is_ok());
     }
-    let mut over = Bytes::from_slice(rt.alloc(), text.as_slice())?;
-    push_piece(&mut over, b"lddw r0 0\nno line\n")?;
-    assert!(rt; code_of(&rt, rt.alloc(), over.as_slice()).err() == Some(8192));
+    text
+}
+
+#[test]
+fn the_longest_code_both_ways(rt: HostRuntime) -> Result<(), Fail> {
+    let mut text = one_line_short(&rt, rt.alloc());
     push_piece(&mut text, b"exit\n")?;
-    let whole = code_of(&rt, rt.alloc(), text.as_slice())
+    let mut code = Bytes::new(rt.alloc());
+    for _ in 0..8192 {
+        push_piece(&mut code, &[0x95, 0, 0, 0, 0, 0, 0, 0])?;
+    }
+    let read = code_of(&rt, rt.alloc(), text.as_slice())
         .ok()
         .ok_or("no code")?;
-    assert_eq!(rt; whole.len(), 65536);
+    assert_eq!(rt; read.len(), MAX_PROGRAM);
+    assert!(rt; read.as_slice() == code.as_slice());
+    let written = text_of(&rt, rt.alloc(), code.as_slice())
+        .ok()
+        .ok_or("no text")?;
+    assert!(rt; written.as_slice() == text.as_slice());
+    Ok(())
+}
+
+#[test]
+fn a_longer_code_is_told_at_its_line(rt: HostRuntime) -> Result<(), Fail> {
+    let mut text = one_line_short(&rt, rt.alloc());
+    push_piece(&mut text, b"lddw r0 0\nno line\n")?;
+    assert!(rt; code_of(&rt, rt.alloc(), text.as_slice()).err() == Some(8192));
     Ok(())
 }
 

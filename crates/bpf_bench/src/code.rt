@@ -1,5 +1,6 @@
 //! The programs. R1 has the number of rounds and R2 the length of the range.
 ghost use Rattle.std.specs.Prelude.{◌≡◌, ◌≤◌, ◌*◌, length, IfOk};
+ghost use Rattle.bpf_bench.specs.Programs.{encoded, program_for, spread_out};
 
 use crate::workload::Workload;
 use cp_base::{Bytes, NoMemory};
@@ -46,7 +47,8 @@ static EXIT: [u8; 8] = [0x95, 0, 0, 0, 0, 0, 0, 0];
 
 /// The code of a workload's program.
 pub fn code_of(alloc: Global, workload: Workload) -> Result<Bytes, NoMemory>
-    ensures { IfOk result (λ code. length code.items ≤ 65536) }
+    ensures code { IfOk result (λ code. code.items ≡ encoded (program_for workload)) }
+    ensures len { IfOk result (λ code. length code.items ≤ 65536) }
 {
     match workload {
         Workload::Loop => Bytes::from_slice(alloc, &LOOP),
@@ -60,8 +62,10 @@ pub fn code_of(alloc: Global, workload: Workload) -> Result<Bytes, NoMemory>
 // The counting loop spread over so many units: its first instructions stand at the start of the code, and
 // its last ones at the end.
 fn spread(alloc: Global, units: u16) -> Result<Bytes, NoMemory>
-    requires { 5 ≤ units }
-    ensures { IfOk result (λ code. length code.items ≡ 8 * units) }
+    requires some { 5 ≤ units }
+    requires few { units ≤ 8192 }
+    ensures code { IfOk result (λ code. code.items ≡ encoded (spread_out units)) }
+    ensures len { IfOk result (λ code. length code.items ≡ 8 * units) }
 {
     let [low, high] = (units - 5).to_le_bytes();
     let [back_low, back_high] = 0u16.wrapping_sub(units - 2).to_le_bytes();

@@ -12,7 +12,7 @@ use Rattle.bpf_model.specs.Form.{form}
 use Rattle.bpf_model.specs.Walk.{units_of, reaches, stop_from, bad_place, is_well_formed, IsWellFormed, instruction_at}
 use Rattle.bpf_model.proofs.BothWays.{form-encoded, form-inside, form-room}
 use Rattle.bpf_model.proofs.Steps.{reaches-some, reaches-none, stop-some, stop-none}
-use Rattle.bpf_decode.specs.Slots.{slots_of, AreAllowed}
+use Rattle.bpf_decode.specs.Slots.{slots_of, HoldAllowed}
 
 -- the slots before a place of the walk have the instructions of the starts there
 pub record Filled (code : List ℕ) (slots : List (Option Insn)) : Type 0 where
@@ -140,7 +140,7 @@ filled-slots code slots w done q = elim (cases_lt q (length slots)) [
         ∙ ap (λ (b : Bool). if b && true then form code q else None) earlier ∙ w.formed q found)
 
 -- each instruction among the slots is one of the profile
-pub filled-allowed : (code : List ℕ) (slots : List (Option Insn)) → Filled code slots → AreAllowed slots
+pub filled-allowed : (code : List ℕ) (slots : List (Option Insn)) → Filled code slots → HoldAllowed slots
 filled-allowed code slots w q d less = subst (λ (o : Option Insn). IfSome o IsAllowed) (sym (get_or_within slots q d None less)) (w.allowed q)
 
 -- a place of the walk without a form

@@ -13,7 +13,8 @@ alu_rows f =
 -- jumps: classes 5 and 6
 abbrev pub jump_rows : Fields → List Row
 jump_rows f =
-    form.ja f ∷ form.ja_long f ∷ form.branch_imm f ∷ form.branch_reg f ∷ form.call_helper f ∷ form.call_local f ∷ form.exit f ∷ []
+    form.ja f ∷ form.ja_long f ∷ form.branch_imm f ∷ form.branch_reg f
+    ∷ form.call_helper f ∷ form.call_local f ∷ form.exit f ∷ []
 
 -- accesses to memory: classes 1, 2 and 3
 abbrev pub access_rows : Fields → List Row

@@ -13,6 +13,6 @@ abbrev pub insn_at : List (Option Insn) → ℤ → Option Insn
 insn_at slots (pos place) = slice_index_or slots place None
 insn_at slots (negsuc place) = None
 
--- each instruction is one of the profile
-abbrev pub AreAllowed : List (Option Insn) → Type 0
-AreAllowed slots = All (λ slot. IfSome slot IsAllowed) slots
+-- each instruction in them is one of the profile
+abbrev pub HoldAllowed : List (Option Insn) → Type 0
+HoldAllowed slots = All (λ slot. IfSome slot IsAllowed) slots

@@ -1,12 +1,12 @@
 //! Whole code.
-ghost use Rattle.std.specs.Prelude.{◌≡◌, ◌==◌, false, ℕ, ◌*◌, ◌≤◌, ◌++◌, length, pos, ◌≤ℤ◌, OnSome, IfSome, OnOk, IfOk, IsOkUnless, option_copied};
+ghost use Rattle.std.specs.Prelude.{◌≡◌, ◌==◌, false, ℕ, ◌*◌, ◌/◌, ◌≤◌, ◌++◌, length, pos, ◌<ℤ◌, OnSome, IfSome, OnOk, IfOk, IsOkUnless, option_copied};
 ghost use Rattle.bpf_model.specs.Encoding.{IsAllowed};
 ghost use Rattle.bpf_model.specs.Walk.{units_of, IsWellFormed, is_well_formed, bad_place, instruction_at};
 ghost use Rattle.bpf_decode.specs.Slots.{slots_of, insn_at};
 
 use crate::instructions::first_insn;
 use bpf_isa::Insn;
-use cp_base::Bytes;
+use cp_base::{Bytes, MAX_PROGRAM, UNIT};
 use std::alloc::{AllocError, AllocFailed, Global};
 use std::marker::Model;
 
@@ -49,25 +49,25 @@ pub struct Decoded {
 }
 
 impl Model for Decoded {
-    ghost use Rattle.std.specs.Prelude.{List, Option, ◌≤◌, length};
+    ghost use Rattle.std.specs.Prelude.{List, Option, ◌*◌, ◌≤◌, length};
+    ghost use Rattle.cp_base.specs.declared.limits.TheConstants.{MAX_PROGRAM, UNIT};
     ghost use Rattle.bpf_isa.specs.declared.insn.Insn.{Insn};
-    ghost use Rattle.bpf_decode.specs.Slots.{AreAllowed};
+    ghost use Rattle.bpf_decode.specs.Slots.{HoldAllowed};
 
     ghost Value = { List (Option Insn) };
 
     ghost view = { λ d. d.slots.items };
 
-    ghost invariant = { λ d. (length d.slots.items ≤ 8192) × AreAllowed d.slots.items };
+    ghost invariant = { λ d. (UNIT * length d.slots.items ≤ MAX_PROGRAM) × HoldAllowed d.slots.items };
 }
 
 impl Decoded {
     /// The instruction that starts at a place, or `None` where none does: before 0, at the second unit
     /// of a load of 64 bits, at the end and behind it. It takes the same time at every place.
-    /// No instruction starts behind place 8191, since code has at most 65,536 bytes, and each one is of the
-    /// profile.
+    /// Places end with the units of the longest program, and each instruction is one of the profile.
     pub fn at(&self, place: i64) -> Option<&Insn>
         ensures instruction { option_copied result ≡ insn_at self.now place }
-        ensures within { OnSome result (place ≤ℤ pos 8191) }
+        ensures within { OnSome result (place <ℤ pos (MAX_PROGRAM / UNIT)) }
         ensures allowed { IfSome result (λ insn. IsAllowed insn.now) }
     {
         if place < 0 {
@@ -107,15 +107,16 @@ fn push_insn(slots: &mut Vec<Option<Insn>>, insn: Insn) -> Result<(), DecodeEnd>
     Ok(())
 }
 
-/// Decodes code of at most 65,536 bytes, with one slot for each unit.
+/// Decodes the code of a program, with one slot for each unit.
 ///
 /// It fails where the code is not well formed (RFC 9669, section 3), at the first place without a form;
 /// empty code has none at 0. Memory is taken first.
 pub fn decode(alloc: Global, code: &Bytes) -> Result<Decoded, DecodeEnd>
-    requires { length code.now.items ≤ 65536 }
+    requires { length code.now.items ≤ MAX_PROGRAM }
     ensures well_formed { OnOk result (IsWellFormed code.now.items) }
-    ensures units { IfOk result (λ d. 8 * length d ≡ length code.now.items) }
-    ensures instructions { IfOk result (λ d. (place : ℕ) → insn_at d (pos place) ≡ instruction_at code.now.items place) }
+    ensures units { IfOk result (λ d. UNIT * length d ≡ length code.now.items) }
+    ensures instructions { IfOk result (λ d.
+        (place : ℕ) → insn_at d (pos place) ≡ instruction_at code.now.items place) }
     ensures bad { (place : ℕ) → result ≡ Err (DecodeEnd.BadInsn place) →
         (is_well_formed code.now.items ≡ false) × (place ≡ bad_place code.now.items) }
 {

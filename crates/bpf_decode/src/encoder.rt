@@ -1,12 +1,10 @@
 //! The bytes of an instruction.
-ghost use Rattle.std.specs.Prelude.{◌≡◌, ◌+◌, ◌≤◌, ◌++◌, length, MatchOption};
+ghost use Rattle.std.specs.Prelude.{◌≡◌, ◌+◌, ◌≤◌, ◌++◌, length, take, drop, slice_index, slice_range};
+ghost use Rattle.std.specs.Int.{w16, w32, to_le_bytes};
 ghost use Rattle.bpf_model.specs.Encoding as spec;
 ghost use Rattle.bpf_model.specs.Encoding.{encoding};
-ghost use Rattle.bpf_model.specs.Walk.{units_of};
-ghost use Rattle.bpf_decode.specs.Units.{bytes_of, IsUnitOf};
 
 use bpf_isa::{AluOp, AtomicOp, Insn, JumpOp, Size};
-use bpf_model::Fields;
 use cp_base::Bytes;
 
 /// Adds the bytes of an instruction, 16 of a load of 64 bits and 8 of any other (RFC 9669, section 3),
@@ -16,240 +14,148 @@ pub fn encode(insn: &Insn, code: &mut Bytes)
     ensures items { code.new.items ≡ code.old.items ++ encoding insn.now }
     ensures spare { code.new.spare + length (encoding insn.now) ≡ code.old.spare }
 {
-    match single_unit(insn) {
-        Some(f) => push_unit(code, &f),
-        None => push_load_imm(code, insn),
-    }
+    append_first_unit(insn, code);
+    append_second_unit(insn, code);
 }
 
-/// Adds the two units of a load of 64 bits.
-fn push_load_imm(code: &mut Bytes, insn: &Insn)
-    requires room { length (encoding insn.now) ≤ code.old.spare }
-    requires wide { units_of insn.now ≡ 2 }
-    ensures items { code.new.items ≡ code.old.items ++ encoding insn.now }
-    ensures spare { code.new.spare + length (encoding insn.now) ≡ code.old.spare }
-{
-    if let Insn::LoadImm { dst, value } = insn {
-        push_unit(
-            code,
-            &unit(0x18, dst.number(), 0, 0, (*value % (1 << 32)) as u32),
-        );
-        push_unit(code, &unit(0, 0, 0, 0, (*value / (1 << 32)) as u32));
-    }
-}
-
-/// Adds the bytes of a unit.
-fn push_unit(code: &mut Bytes, f: &Fields)
-    requires room { 8 ≤ code.old.spare }
-    requires dst { f.now.dst ≤ 15 }
-    requires src { f.now.src ≤ 15 }
-    ensures items { code.new.items ≡ code.old.items ++ bytes_of f.now }
+/// Adds the first unit of an instruction (RFC 9669, section 3.1).
+fn append_first_unit(insn: &Insn, code: &mut Bytes)
+    requires { 8 ≤ code.old.spare }
+    ensures items { code.new.items ≡ code.old.items ++ take 8 (encoding insn.now) }
     ensures spare { code.new.spare + 8 ≡ code.old.spare }
 {
-    let [o0, o1] = f.offset.to_le_bytes();
-    let [i0, i1, i2, i3] = f.imm.to_le_bytes();
-    code.append(&[f.opcode, 16 * f.src + f.dst, o0, o1, i0, i1, i2, i3]);
+    let [o0, o1] = offset(insn).to_le_bytes();
+    let [i0, i1, i2, i3] = imm(insn).to_le_bytes();
+    code.append(&[opcode(insn), registers(insn), o0, o1, i0, i1, i2, i3]);
 }
 
-/// A unit by its fields.
-fn unit(opcode: u8, dst: u8, src: u8, offset: u16, imm: u32) -> Fields
-    ensures bytes { bytes_of result ≡ spec.unit opcode dst src offset imm }
-    ensures dst { result.dst ≡ dst }
-    ensures src { result.src ≡ src }
+/// Adds the second unit of a load of 64 bits, and nothing for another instruction (RFC 9669, section 3.2).
+fn append_second_unit(insn: &Insn, code: &mut Bytes)
+    requires { length (drop 8 (encoding insn.now)) ≤ code.old.spare }
+    ensures items { code.new.items ≡ code.old.items ++ drop 8 (encoding insn.now) }
+    ensures spare { code.new.spare + length (drop 8 (encoding insn.now)) ≡ code.old.spare }
 {
-    Fields {
-        opcode,
-        dst,
-        src,
-        offset,
-        imm,
+    if let Insn::LoadImm { value, .. } = insn {
+        let high = (*value / (1 << 32)) as u32;
+        let [i0, i1, i2, i3] = high.to_le_bytes();
+        code.append(&[0, 0, 0, 0, i0, i1, i2, i3]);
     }
 }
 
-/// The unit of an instruction that has only one.
-fn single_unit(insn: &Insn) -> Option<Fields>
-    ensures { MatchOption result (units_of insn.now ≡ 2) (IsUnitOf insn.now) }
+/// The opcode, the first byte of an instruction.
+fn opcode(insn: &Insn) -> u8
+    ensures { result ≡ slice_index (encoding insn.now) 0 }
 {
-    Some(match insn {
-        Insn::AluImm { op, wide, dst, imm } => unit(
-            alu_opcode(*op, 0, *wide),
-            dst.number(),
-            0,
-            0,
-            imm.cast_unsigned(),
-        ),
-        Insn::AluReg { op, wide, dst, src } => unit(
-            alu_opcode(*op, 1, *wide),
-            dst.number(),
-            src.number(),
-            0,
-            0,
-        ),
-        Insn::DivImm { op, wide, dst, imm } => unit(
-            alu_opcode(*op, 0, *wide),
-            dst.number(),
-            0,
-            alu_offset(*op),
-            imm.cast_unsigned(),
-        ),
-        Insn::DivReg { op, wide, dst, src } => unit(
-            alu_opcode(*op, 1, *wide),
-            dst.number(),
-            src.number(),
-            alu_offset(*op),
-            0,
-        ),
-        Insn::Neg { wide, dst } => unit(alu_opcode(AluOp::Neg, 0, *wide), dst.number(), 0, 0, 0),
-        Insn::MovImm { wide, dst, imm } => unit(
-            alu_opcode(AluOp::Mov, 0, *wide),
-            dst.number(),
-            0,
-            0,
-            imm.cast_unsigned(),
-        ),
-        Insn::MovReg { wide, dst, src } => unit(
-            alu_opcode(AluOp::Mov, 1, *wide),
-            dst.number(),
-            src.number(),
-            0,
-            0,
-        ),
-        Insn::Movsx32 { op, dst, src } => unit(
-            0xbc,
-            dst.number(),
-            src.number(),
-            alu_offset(*op),
-            0,
-        ),
-        Insn::Movsx64 { op, dst, src } => unit(
-            0xbf,
-            dst.number(),
-            src.number(),
-            alu_offset(*op),
-            0,
-        ),
-        Insn::ToLittle { bits, dst } => unit(0xd4, dst.number(), 0, 0, bits.bits() as u32),
-        Insn::ToBig { bits, dst } => unit(0xdc, dst.number(), 0, 0, bits.bits() as u32),
-        Insn::Swap { bits, dst } => unit(0xd7, dst.number(), 0, 0, bits.bits() as u32),
-        Insn::Jump { offset } => unit(0x05, 0, 0, offset.cast_unsigned(), 0),
-        Insn::JumpLong { imm } => unit(0x06, 0, 0, 0, imm.cast_unsigned()),
-        Insn::BranchImm {
-            op,
-            wide,
-            dst,
-            offset,
-            imm,
-        } => unit(
-            jump_opcode(*op, 0, *wide),
-            dst.number(),
-            0,
-            offset.cast_unsigned(),
-            imm.cast_unsigned(),
-        ),
-        Insn::BranchReg {
-            op,
-            wide,
-            dst,
-            src,
-            offset,
-        } => unit(
-            jump_opcode(*op, 1, *wide),
-            dst.number(),
-            src.number(),
-            offset.cast_unsigned(),
-            0,
-        ),
-        Insn::CallHelper => unit(0x85, 0, 0, 0, 1),
-        Insn::CallLocal { imm } => unit(0x85, 0, 1, 0, imm.cast_unsigned()),
-        Insn::Exit => unit(0x95, 0, 0, 0, 0),
-        Insn::LoadImm { .. } => return None,
-        Insn::Load {
-            size,
-            dst,
-            src,
-            offset,
-        } => unit(
-            access_opcode(3, *size, 1),
-            dst.number(),
-            src.number(),
-            offset.cast_unsigned(),
-            0,
-        ),
-        Insn::LoadSigned {
-            size,
-            dst,
-            src,
-            offset,
-        } => unit(
-            access_opcode(4, *size, 1),
-            dst.number(),
-            src.number(),
-            offset.cast_unsigned(),
-            0,
-        ),
-        Insn::StoreImm {
-            size,
-            dst,
-            offset,
-            imm,
-        } => unit(
-            access_opcode(3, *size, 2),
-            dst.number(),
-            0,
-            offset.cast_unsigned(),
-            imm.cast_unsigned(),
-        ),
-        Insn::StoreReg {
-            size,
-            dst,
-            src,
-            offset,
-        } => unit(
-            access_opcode(3, *size, 3),
-            dst.number(),
-            src.number(),
-            offset.cast_unsigned(),
-            0,
-        ),
-        Insn::Atomic {
-            op,
-            size,
-            dst,
-            src,
-            offset,
-        } => unit(
-            access_opcode(6, *size, 3),
-            dst.number(),
-            src.number(),
-            offset.cast_unsigned(),
-            atomic_code(*op),
-        ),
-        Insn::AtomicFetch {
-            op,
-            size,
-            dst,
-            src,
-            offset,
-        } => unit(
-            access_opcode(6, *size, 3),
-            dst.number(),
-            src.number(),
-            offset.cast_unsigned(),
-            atomic_code(*op) + 1,
-        ),
-        Insn::CompareExchange {
-            size,
-            dst,
-            src,
-            offset,
-        } => unit(
-            access_opcode(6, *size, 3),
-            dst.number(),
-            src.number(),
-            offset.cast_unsigned(),
-            0xf1,
-        ),
-    })
+    match insn {
+        Insn::AluImm { op, wide, .. } => alu_opcode(*op, 0, *wide),
+        Insn::AluReg { op, wide, .. } => alu_opcode(*op, 1, *wide),
+        Insn::DivImm { op, wide, .. } => alu_opcode(*op, 0, *wide),
+        Insn::DivReg { op, wide, .. } => alu_opcode(*op, 1, *wide),
+        Insn::Neg { wide, .. } => alu_opcode(AluOp::Neg, 0, *wide),
+        Insn::MovImm { wide, .. } => alu_opcode(AluOp::Mov, 0, *wide),
+        Insn::MovReg { wide, .. } => alu_opcode(AluOp::Mov, 1, *wide),
+        Insn::Movsx32 { .. } => 0xbc,
+        Insn::Movsx64 { .. } => 0xbf,
+        Insn::ToLittle { .. } => 0xd4,
+        Insn::ToBig { .. } => 0xdc,
+        Insn::Swap { .. } => 0xd7,
+        Insn::Jump { .. } => 0x05,
+        Insn::JumpLong { .. } => 0x06,
+        Insn::BranchImm { op, wide, .. } => jump_opcode(*op, 0, *wide),
+        Insn::BranchReg { op, wide, .. } => jump_opcode(*op, 1, *wide),
+        Insn::CallHelper => 0x85,
+        Insn::CallLocal { .. } => 0x85,
+        Insn::Exit => 0x95,
+        Insn::LoadImm { .. } => 0x18,
+        Insn::Load { size, .. } => access_opcode(3, *size, 1),
+        Insn::LoadSigned { size, .. } => access_opcode(4, *size, 1),
+        Insn::StoreImm { size, .. } => access_opcode(3, *size, 2),
+        Insn::StoreReg { size, .. } => access_opcode(3, *size, 3),
+        Insn::Atomic { size, .. } => access_opcode(6, *size, 3),
+        Insn::AtomicFetch { size, .. } => access_opcode(6, *size, 3),
+        Insn::CompareExchange { size, .. } => access_opcode(6, *size, 3),
+    }
+}
+
+/// The registers, the second byte of an instruction: the source in its high half, the destination in its
+/// low half. A call of a local function has 1 in place of a source.
+fn registers(insn: &Insn) -> u8
+    ensures { result ≡ slice_index (encoding insn.now) 1 }
+{
+    match insn {
+        Insn::AluReg { dst, src, .. }
+        | Insn::DivReg { dst, src, .. }
+        | Insn::MovReg { dst, src, .. }
+        | Insn::Movsx32 { dst, src, .. }
+        | Insn::Movsx64 { dst, src, .. }
+        | Insn::BranchReg { dst, src, .. }
+        | Insn::Load { dst, src, .. }
+        | Insn::LoadSigned { dst, src, .. }
+        | Insn::StoreReg { dst, src, .. }
+        | Insn::Atomic { dst, src, .. }
+        | Insn::AtomicFetch { dst, src, .. }
+        | Insn::CompareExchange { dst, src, .. } => 16 * src.number() + dst.number(),
+        Insn::AluImm { dst, .. }
+        | Insn::DivImm { dst, .. }
+        | Insn::Neg { dst, .. }
+        | Insn::MovImm { dst, .. }
+        | Insn::ToLittle { dst, .. }
+        | Insn::ToBig { dst, .. }
+        | Insn::Swap { dst, .. }
+        | Insn::BranchImm { dst, .. }
+        | Insn::LoadImm { dst, .. }
+        | Insn::StoreImm { dst, .. } => dst.number(),
+        Insn::CallLocal { .. } => 16,
+        Insn::Jump { .. } | Insn::JumpLong { .. } | Insn::CallHelper | Insn::Exit => 0,
+    }
+}
+
+/// The bits of the offset, the third and fourth byte of an instruction.
+fn offset(insn: &Insn) -> u16
+    ensures { to_le_bytes w16 result ≡ slice_range (encoding insn.now) 2 4 }
+{
+    match insn {
+        Insn::DivImm { op, .. }
+        | Insn::DivReg { op, .. }
+        | Insn::Movsx32 { op, .. }
+        | Insn::Movsx64 { op, .. } => alu_offset(*op),
+        Insn::Jump { offset }
+        | Insn::BranchImm { offset, .. }
+        | Insn::BranchReg { offset, .. }
+        | Insn::Load { offset, .. }
+        | Insn::LoadSigned { offset, .. }
+        | Insn::StoreImm { offset, .. }
+        | Insn::StoreReg { offset, .. }
+        | Insn::Atomic { offset, .. }
+        | Insn::AtomicFetch { offset, .. }
+        | Insn::CompareExchange { offset, .. } => offset.cast_unsigned(),
+        _ => 0,
+    }
+}
+
+/// The bits of the immediate, the fifth to the eighth byte of an instruction. A load of 64 bits has the
+/// low half of its value there.
+fn imm(insn: &Insn) -> u32
+    ensures { to_le_bytes w32 result ≡ slice_range (encoding insn.now) 4 8 }
+{
+    match insn {
+        Insn::AluImm { imm, .. }
+        | Insn::DivImm { imm, .. }
+        | Insn::MovImm { imm, .. }
+        | Insn::JumpLong { imm }
+        | Insn::BranchImm { imm, .. }
+        | Insn::CallLocal { imm }
+        | Insn::StoreImm { imm, .. } => imm.cast_unsigned(),
+        Insn::ToLittle { bits, .. } | Insn::ToBig { bits, .. } | Insn::Swap { bits, .. } => {
+            bits.bits() as u32
+        }
+        Insn::CallHelper => 1,
+        Insn::LoadImm { value, .. } => (*value % (1 << 32)) as u32,
+        Insn::Atomic { op, .. } => atomic_code(*op),
+        Insn::AtomicFetch { op, .. } => atomic_code(*op) + 1,
+        Insn::CompareExchange { .. } => 0xf1,
+        _ => 0,
+    }
 }
 
 /// The code of an arithmetic operation.

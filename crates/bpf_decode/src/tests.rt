@@ -1,13 +1,13 @@
 //! Codes and instructions by the table of forms, with values from the format and not from the program.
 use super::{DecodeEnd, decode, encode};
 use bpf_isa::{Insn, Reg, Size};
-use cp_base::Bytes;
+use cp_base::{Bytes, MAX_PROGRAM};
 use std::alloc::Global;
 use std::process::Abort;
 
 /// What `decode` says of a code: the number of its units, or the bad place.
 fn outcome(rt: &impl Abort, alloc: Global, code: &[u8]) -> Result<u32, u32> {
-    assert!(rt; code.len() <= 65536);
+    assert!(rt; code.len() as u64 <= MAX_PROGRAM);
     let code = Bytes::from_slice(alloc, code).expect(rt, "memory for the code");
     match decode(alloc, &code) {
         Ok(decoded) => Ok(decoded.units()),
@@ -219,4 +219,28 @@ fn instructions_by_place(rt: HostRuntime) {
     encode(&load, &mut written);
     encode(&store, &mut written);
     assert_eq!(rt; written.as_slice(), code.as_slice());
+}
+
+#[test]
+fn the_longest_code(rt: HostRuntime) {
+    // 8,190 times exit, and lddw r1 18446744073709551615 in the last two units
+    let alloc = rt.alloc();
+    let dst = Reg::new(1).expect(&rt, "register 1");
+    let load = Insn::LoadImm {
+        dst,
+        value: u64::MAX,
+    };
+    let mut code = Bytes::new(alloc);
+    for _ in 0..8190 {
+        assert!(rt; code.reserve(8).is_ok());
+        encode(&Insn::Exit, &mut code);
+    }
+    assert!(rt; code.reserve(16).is_ok());
+    encode(&load, &mut code);
+    assert_eq!(rt; code.len(), MAX_PROGRAM);
+    let decoded = decode(alloc, &code).ok().expect(&rt, "well formed code");
+    assert_eq!(rt; decoded.units(), 8192);
+    assert_eq!(rt; decoded.at(8189).copied(), Some(Insn::Exit));
+    assert_eq!(rt; decoded.at(8190).copied(), Some(load));
+    assert!(rt; decoded.at(8191).is_none());
 }

@@ -8,32 +8,33 @@ use Rattle.bpf_isa.specs.declared.insn.Insn.{Insn}
 use Rattle.bpf_model.specs.Machine.{Machine}
 use Rattle.bpf_model.specs.Memory.{Memory}
 use Rattle.bpf_model.specs.Outcome.{outcome_from, outcome_after}
-use Rattle.bpf_model.specs.Step.{Program, Effect, Goes, Ends, Step, Continues, Stops, effect, settled, start_at, step}
+use Rattle.bpf_model.specs.Step.{Program, Effect, Goes, Step, Continues, Stops, effect, settled, start_at, step}
 use Rattle.bpf_decode.specs.Slots.{insn_at}
-use Rattle.bpf_exec.specs.Setting.{program_of}
+use Rattle.bpf_exec.specs.Setting.{decoded_program}
 
+-- a step by the effect of its instruction
 module _ (program : Program) (m : Machine) (i : Insn) (here : program m.counter ≡ Some i) where
-  -- a step by the effect of its instruction
-  stepped : (e : Effect) → effect i m ≡ e → step program m ≡ settled program m e
+  pub stepped : (e : Effect) → effect i m ≡ e → step program m ≡ settled program m e
   stepped e did =
       ap (λ (o : Option Insn). option_map_or (λ j. settled program m (effect j m)) o (Stops (BadJump m.counter) m.memory)) here
       ∙ ap (λ (x : Effect). settled program m x) did
 
-  pub step_ends : (ending : End) → effect i m ≡ Ends ending → step program m ≡ Stops ending m.memory
-  step_ends ending did = stepped (Ends ending) did
+-- an effect goes on at a place where an instruction starts
+pub settled_goes : (program : Program) (m m' : Machine) (target : ℤ) (n : ℕ) (next : Insn) → target ≡ pos n → program n ≡ Some next
+    → settled program m (Goes m' target) ≡ Continues (record m' { counter = n })
+settled_goes program m m' target n next there found =
+    ap (λ (z : ℤ). settled program m (Goes m' z)) there
+    ∙ ap (λ (o : Option Insn). option_map_or (λ place. Continues (record m' { counter = place })) (option_map (λ j. n) o) (Stops (BadJump m.counter) m'.memory)) found
 
-  pub step_goes : (m' : Machine) (n : ℕ) (next : Insn) → effect i m ≡ Goes m' (pos n) → program n ≡ Some next → step program m ≡ Continues (record m' { counter = n })
-  step_goes m' n next did found =
-      stepped (Goes m' (pos n)) did
-      ∙ ap (λ (o : Option Insn). option_map_or (λ place. Continues (record m' { counter = place })) (option_map (λ j. n) o) (Stops (BadJump m.counter) m'.memory)) found
-
-  pub step_misses : (m' : Machine) (target : ℤ) → effect i m ≡ Goes m' target → start_at program target ≡ None → step program m ≡ Stops (BadJump m.counter) m'.memory
-  step_misses m' target did none =
-      stepped (Goes m' target) did
-      ∙ ap (λ (o : Option ℕ). option_map_or (λ place. Continues (record m' { counter = place })) o (Stops (BadJump m.counter) m'.memory)) none
+-- and ends where none does
+pub settled_misses : (program : Program) (m m' : Machine) (target : ℤ) (place : ℕ) → start_at program target ≡ None → m.counter ≡ place
+    → settled program m (Goes m' target) ≡ Stops (BadJump place) m'.memory
+settled_misses program m m' target place none at =
+    ap (λ (o : Option ℕ). option_map_or (λ place. Continues (record m' { counter = place })) o (Stops (BadJump m.counter) m'.memory)) none
+    ∙ ap (λ (n : ℕ). Stops (BadJump n) m'.memory) at
 
 -- no instruction starts at a target that has no slot
-pub no_start : (slots : List (Option Insn)) (target : ℤ) → insn_at slots target ≡ None → start_at (program_of slots) target ≡ None
+pub no_start : (slots : List (Option Insn)) (target : ℤ) → insn_at slots target ≡ None → start_at (decoded_program slots) target ≡ None
 no_start slots (pos n) none = ap (λ (o : Option Insn). option_map (λ j. n) o) none
 no_start slots (negsuc n) none = refl
 

@@ -2,7 +2,7 @@
 ghost use Rattle.std.specs.Prelude.{◌≡◌};
 ghost use Rattle.bpf_model.specs.Step.{call, effect, return_to};
 ghost use Rattle.confined_view.specs.Touched.{Touched};
-ghost use Rattle.bpf_exec.specs.Seen.{machine_of, effect_of};
+ghost use Rattle.bpf_exec.specs.Seen.{machine_of, effect_seen};
 
 use crate::processor::{Next, Processor, SAVED_FRAMES, pointer_of};
 use bpf_isa::{End, Insn};
@@ -13,15 +13,17 @@ impl Processor {
     /// The helper of number 1: the length of a range.
     #[inline(always)]
     pub fn call_helper(&mut self, view: &View) -> Next
-        ensures { effect Insn.CallHelper (machine_of self.old view.now) ≡ effect_of result self.new view.now }
+        ensures effect { effect Insn.CallHelper (machine_of self.old view.now) ≡ effect_seen result self.new view.now }
+        ensures place { self.new.place ≡ self.old.place }
     {
         self.registers[0] = view.range_len(self.registers[1]);
-        Next::At(self.next())
+        Next::Behind
     }
 
     /// A call of a local function, whose first instruction lies so many units behind the next place.
     pub fn call(&mut self, distance: i32) -> Next
-        ensures { (t : Touched) → call (machine_of self.old t) distance ≡ effect_of result self.new t }
+        ensures effect { (t : Touched) → call (machine_of self.old t) distance ≡ effect_seen result self.new t }
+        ensures place { self.new.place ≡ self.old.place }
     {
         if self.free == 0 {
             return Next::Ended(End::CallDepth(self.place));
@@ -34,12 +36,13 @@ impl Processor {
             return_place: self.place + 1,
         };
         self.registers[10] = pointer_of(SAVED_FRAMES - self.free);
-        Next::At(self.target(distance))
+        Next::By(distance)
     }
 
     /// A return from a local function, or from the program.
     pub fn exit(&mut self) -> Next
-        ensures { (t : Touched) → effect Insn.Exit (machine_of self.old t) ≡ effect_of result self.new t }
+        ensures effect { (t : Touched) → effect Insn.Exit (machine_of self.old t) ≡ effect_seen result self.new t }
+        ensures place { self.new.place ≡ self.old.place }
     {
         if self.free == SAVED_FRAMES {
             return Next::Ended(End::Exit(self.registers[0]));
@@ -47,6 +50,6 @@ impl Processor {
         let frame = self.frames[self.free];
         self.free += 1;
         self.registers[6..].copy_from_slice(&frame.registers);
-        Next::At(i64::from(frame.return_place))
+        Next::At(frame.return_place)
     }
 }

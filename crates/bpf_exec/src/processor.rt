@@ -18,8 +18,12 @@ const FRAME_LEN: u64 = 512;
 /// What an instruction leads to, before the next place is looked at.
 #[derive(Clone, Copy, Debug)]
 pub(crate) enum Next {
-    /// The execution goes on at a place, where an instruction may start or not.
-    At(i64),
+    /// The execution goes on behind the instruction, which has one unit.
+    Behind,
+    /// It goes on so many units further than that, where an instruction may start or not.
+    By(i32),
+    /// It goes on at a place.
+    At(u32),
     /// The execution ends.
     Ended(End),
 }
@@ -40,17 +44,17 @@ pub(crate) struct Processor {
 }
 
 impl Processor {
-    ghost use Rattle.std.specs.Prelude.{◌+◌, ◌%◌, ◌^◌, ℤ, length, pos, ◌+ℤ◌, replicate, slice_index, slice_set};
+    ghost use Rattle.std.specs.Prelude.{◌+◌, ◌%◌, ◌^◌, length, replicate, slice_index, slice_set};
     ghost use Rattle.bpf_model.specs.Address.{stack_len};
     ghost use Rattle.bpf_model.specs.Machine.{entry_machine, with_register};
     ghost use Rattle.confined_view.specs.Touched.{Touched};
-    ghost use Rattle.bpf_exec.specs.Seen.{machine_of, memory_of, ranges_of};
+    ghost use Rattle.bpf_exec.specs.Seen.{machine_of, window_memory, ranges_of};
 
     /// The processor at the start of a program, with two parameters and so many ranges.
     pub fn entry(p1: u64, p2: u64, ranges: u64) -> Processor
         ensures place { result.place ≡ 0 }
-        ensures machine { (t : Touched) → t.stack ≡ replicate stack_len 0 → length (ranges_of t.windows) ≡ ranges →
-            machine_of result t ≡ entry_machine (ranges_of t.windows) (memory_of t.windows) p1 p2 }
+        ensures machine { (t : Touched) → t.stack ≡ replicate stack_len 0 → length (ranges_of t) ≡ ranges →
+            machine_of result t ≡ entry_machine (ranges_of t) (window_memory t.windows) p1 p2 }
     {
         let saved = SavedFrame {
             registers: [0; 5],
@@ -75,25 +79,10 @@ impl Processor {
     /// Puts a value into a register.
     #[inline(always)]
     pub fn set(&mut self, reg: Reg, value: u64)
-        ensures { (t : Touched) → machine_of self.new t ≡ with_register (machine_of self.old t) reg value }
+        ensures machine { (t : Touched) → machine_of self.new t ≡ with_register (machine_of self.old t) reg value }
+        ensures place { self.new.place ≡ self.old.place }
     {
         self.registers[reg.number() as usize] = value;
-    }
-
-    /// The place behind an instruction of one unit.
-    #[inline(always)]
-    pub fn next(&self) -> i64
-        ensures { result ≡ pos (self.now.place + 1) }
-    {
-        i64::from(self.place) + 1
-    }
-
-    /// The place behind it and so many units further.
-    #[inline(always)]
-    pub fn target(&self, distance: i32) -> i64
-        ensures { result ≡ pos (self.now.place + 1) +ℤ distance }
-    {
-        self.next() + i64::from(distance)
     }
 
     /// The address that an offset from a register makes.

@@ -4,32 +4,45 @@ ghost use Rattle.std.specs.Prelude.{◌≡◌, ◌<◌, ◌^◌, IfSome, length,
 use crate::{End, run};
 use bpf_decode::decode;
 use bpf_isa::Size;
-use confined_view::View;
+use confined_view::{View, Window};
 use cp_base::Bytes;
 use std::alloc::Global;
 
 // A view of one window and a stack of zeros.
-fn view_of(alloc: Global, window: Bytes) -> Option<View>
-    requires { length window.items < 2 ^ 32 }
+fn view_of(alloc: Global, window: Window) -> Option<View>
+    requires { length window.bytes.items < 2 ^ 32 }
     ensures { IfSome result (λ view. view.stack ≡ replicate 4096 0) }
 {
     let stack = Bytes::filled(alloc, 4096, 0).ok()?;
     Some(View::new(vec![in alloc; window].ok()?, stack))
 }
 
-// How a program ends that has one range of so many zeros, a first parameter and a budget, and the first
-// byte of its range then; `None` for want of memory.
-fn outcome_of(alloc: Global, code: &[u8], len: u32, p1: u64, budget: u64) -> Option<(End, u64)> {
+// How a program ends that has one range of so many zeros, which is writable or not, a first parameter and
+// a budget, and the first byte of its range then; `None` for want of memory.
+fn outcome_on(
+    alloc: Global,
+    code: &[u8],
+    len: u32,
+    writable: bool,
+    p1: u64,
+    budget: u64,
+) -> Option<(End, u64)> {
     if code.len() > 65_536 || budget < 1 {
         return None;
     }
     let decoded = decode(alloc, &Bytes::from_slice(alloc, code).ok()?).ok()?;
-    let mut view = view_of(alloc, Bytes::filled(alloc, u64::from(len), 0).ok()?)?;
+    let bytes = Bytes::filled(alloc, u64::from(len), 0).ok()?;
+    let mut view = view_of(alloc, Window { bytes, writable })?;
     let end = run(&decoded, &mut view, p1, 0, budget);
     Some((end, view.load(0x1_0000_0000, Size::B)?))
 }
 
-// How a program ends that adds up 2,048 ones of range 0, and the sum that it stores in range 1.
+// The same with a range that is writable.
+fn outcome_of(alloc: Global, code: &[u8], len: u32, p1: u64, budget: u64) -> Option<(End, u64)> {
+    outcome_on(alloc, code, len, true, p1, budget)
+}
+
+// How a program ends that adds up 2,048 ones of range 0, which is read-only, and the sum that it stores in range 1.
 fn summed(alloc: Global, budget: u64) -> Option<(End, u64)> {
     if budget < 1 {
         return None;
@@ -38,8 +51,14 @@ fn summed(alloc: Global, budget: u64) -> Option<(End, u64)> {
         b"\x18\x04\0\0\0\0\0\0\0\0\0\0\x01\0\0\0\xb7\0\0\0\0\0\0\0\x15\x01\x05\0\0\0\0\0\x71\x45\0\0\0\0\0\0\x0f\x50\0\0\0\0\0\0\x07\x04\0\0\x01\0\0\0\
         \x17\x01\0\0\x01\0\0\0\x05\0\xfa\xff\0\0\0\0\x18\x04\0\0\0\0\0\0\0\0\0\0\x02\0\0\0\x7b\x04\0\0\0\0\0\0\x95\0\0\0\0\0\0\0";
     let decoded = decode(alloc, &Bytes::from_slice(alloc, code).ok()?).ok()?;
-    let ones = Bytes::filled(alloc, 2048, 1).ok()?;
-    let sum = Bytes::filled(alloc, 512, 0).ok()?;
+    let ones = Window {
+        bytes: Bytes::filled(alloc, 2048, 1).ok()?,
+        writable: false,
+    };
+    let sum = Window {
+        bytes: Bytes::filled(alloc, 512, 0).ok()?,
+        writable: true,
+    };
     let stack = Bytes::filled(alloc, 4096, 0).ok()?;
     let mut view = View::new(vec![in alloc; ones, sum].ok()?, stack);
     let end = run(&decoded, &mut view, 2048, 0, budget);
@@ -411,5 +430,54 @@ fn hostile_addresses(rt: HostRuntime) {
             Some((end, byte)),
             "with {p1} and the budget {budget}"
         );
+    }
+}
+
+#[test]
+fn read_only_ranges(rt: HostRuntime) {
+    for (code, writable, end, byte) in [
+        // lddw r1 4294967296, stb r1 0 85, ldxb r0 r1 0, exit
+        (
+            b"\x18\x01\0\0\0\0\0\0\0\0\0\0\x01\0\0\0\x72\x01\0\0\x55\0\0\0\x71\x10\0\0\0\0\0\0\x95\0\0\0\0\0\0\0".as_slice(),
+            false,
+            End::BadAccess(2),
+            0,
+        ),
+        // lddw r1 4294967296, ldxb r0 r1 0, exit
+        (
+            b"\x18\x01\0\0\0\0\0\0\0\0\0\0\x01\0\0\0\x71\x10\0\0\0\0\0\0\x95\0\0\0\0\0\0\0".as_slice(),
+            false,
+            End::Exit(0),
+            0,
+        ),
+        // lddw r1 4294967296, mov64 r0 1, mov64 r2 5, acmpxchgd r1 0 r2, exit: the comparison fails
+        (
+            b"\x18\x01\0\0\0\0\0\0\0\0\0\0\x01\0\0\0\xb7\0\0\0\x01\0\0\0\xb7\x02\0\0\x05\0\0\0\xdb\x21\0\0\xf1\0\0\0\x95\0\0\0\0\0\0\0".as_slice(),
+            false,
+            End::BadAccess(4),
+            0,
+        ),
+        (
+            b"\x18\x01\0\0\0\0\0\0\0\0\0\0\x01\0\0\0\xb7\0\0\0\x01\0\0\0\xb7\x02\0\0\x05\0\0\0\xdb\x21\0\0\xf1\0\0\0\x95\0\0\0\0\0\0\0".as_slice(),
+            true,
+            End::Exit(0),
+            0,
+        ),
+        // lddw r1 4294967296, mov64 r2 5, acmpxchgd r1 0 r2, exit: the comparison holds
+        (
+            b"\x18\x01\0\0\0\0\0\0\0\0\0\0\x01\0\0\0\xb7\x02\0\0\x05\0\0\0\xdb\x21\0\0\xf1\0\0\0\x95\0\0\0\0\0\0\0".as_slice(),
+            false,
+            End::BadAccess(3),
+            0,
+        ),
+        (
+            b"\x18\x01\0\0\0\0\0\0\0\0\0\0\x01\0\0\0\xb7\x02\0\0\x05\0\0\0\xdb\x21\0\0\xf1\0\0\0\x95\0\0\0\0\0\0\0".as_slice(),
+            true,
+            End::Exit(0),
+            5,
+        ),
+    ] {
+        let found = outcome_on(rt.alloc(), code, 16, writable, 0, 10);
+        assert_eq!(rt; found, Some((end, byte)), "writable: {writable}");
     }
 }

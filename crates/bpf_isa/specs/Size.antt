@@ -4,8 +4,8 @@ use Rattle.bpf_isa.specs.declared.operand.Size.{Size}
 use Rattle.bpf_isa.specs.declared.operand.Size.TheVariants.{B, H, W, D}
 
 -- how many bytes an access of this size reads or writes (RFC 9669, section 5)
-abbrev pub bytes_of : Size → ℕ
-bytes_of B = 1
-bytes_of H = 2
-bytes_of W = 4
-bytes_of D = 8
+abbrev pub byte_count : Size → ℕ
+byte_count B = 1
+byte_count H = 2
+byte_count W = 4
+byte_count D = 8

@@ -58,11 +58,11 @@ pub enum Size {
 
 impl Size {
     ghost use Rattle.std.specs.Prelude.{◌≡◌};
-    ghost use Rattle.bpf_isa.specs.Size.{bytes_of};
+    ghost use Rattle.bpf_isa.specs.Size.{byte_count};
 
     /// The number of bytes of an access: 1, 2, 4 or 8.
     pub fn bytes(self) -> u8
-        ensures { result ≡ bytes_of self }
+        ensures { result ≡ byte_count self }
     {
         match self {
             Size::B => 1,

@@ -1,36 +1,36 @@
 -- Addresses: an access lies where it is resolved to, and nowhere else.
 use Rattle.std.proofs.Common.{◌≡◌, ◌≢◌, ℕ, zero, suc, ◌+◌, ◌-◌, ◌^◌, ◌<◌, ◌≤◌, Bool, true, false, List, [], ◌∷◌, Option, Some, None, length, refl, sym, ap, ◌∙◌, subst, arith}
-use Rattle.std.specs.Prelude.{slice_get, IsSomeAnd, if◌then◌else◌, All}
+use Rattle.std.specs.Prelude.{slice_get, slice_index_or, IsSomeAnd, if◌then◌else◌, All}
 use Rattle.std.proofs.lemmas.Bool.{and_parts, and_from, and_left, and_right, leb-true, le-leb, lt-leb}
 use Rattle.std.proofs.lemmas.Option.{same_Some, none-some}
-use Rattle.bpf_model.specs.Address.{Place, InRange, InStack, Nowhere, range_start, stack_start, stack_len, is_within, resolve_from, resolve, LiesAt}
+use Rattle.bpf_model.specs.Address.{Location, InRange, InStack, Nowhere, range_start, stack_start, stack_len, lies_within, resolve_from, resolve, for_writing, resolve_to_write, LiesAt, IsForWriting}
 
 -- the test of an access against a part of memory, both ways
-within-parts : (start len a n : ℕ) → is_within start len a n ≡ true → (start ≤ a) × (a + n ≤ start + len)
+within-parts : (start len a n : ℕ) → lies_within start len a n ≡ true → (start ≤ a) × (a + n ≤ start + len)
 within-parts start len a n e =
     let both = and_parts _ _ e in (leb-true start a both.0, leb-true (a + n) (start + len) both.1)
 
-within-from : (start len a n : ℕ) → start ≤ a → a + n ≤ start + len → is_within start len a n ≡ true
+within-from : (start len a n : ℕ) → start ≤ a → a + n ≤ start + len → lies_within start len a n ≡ true
 within-from start len a n low high = and_from _ _ (le-leb start a low) (le-leb (a + n) (start + len) high)
 
-before : (start len a n : ℕ) → a < start → is_within start len a n ≡ false
+before : (start len a n : ℕ) → a < start → lies_within start len a n ≡ false
 before start len a n h = and_left _ _ (lt-leb start a h)
 
-behind : (start len a n : ℕ) → start + len < a + n → is_within start len a n ≡ false
+behind : (start len a n : ℕ) → start + len < a + n → lies_within start len a n ≡ false
 behind start len a n h = and_right _ _ (lt-leb (a + n) (start + len) h)
 
 -- an access lies where it is resolved to, where the ranges are the last ones of all
 lies_from : (all : List ℕ) (i : ℕ) (lengths : List ℕ) (a n : ℕ) → ((k : ℕ) → slice_get lengths k ≡ slice_get all (i + k))
     → LiesAt all a n (resolve_from i lengths a n)
-lies_from all i [] a n same = by_test (is_within stack_start stack_len a n) refl
+lies_from all i [] a n same = by_test (lies_within stack_start stack_len a n) refl
   where
-    by_test : (b : Bool) → is_within stack_start stack_len a n ≡ b → LiesAt all a n (if b then InStack (a - stack_start) else Nowhere)
+    by_test : (b : Bool) → lies_within stack_start stack_len a n ≡ b → LiesAt all a n (if b then InStack (a - stack_start) else Nowhere)
     by_test false e = tt
     by_test true e = let bounds = within-parts stack_start stack_len a n e in (omega (arith, bounds), omega (arith, bounds))
-lies_from all i (len ∷ lengths) a n same = by_test (is_within (range_start i) len a n) refl
+lies_from all i (len ∷ lengths) a n same = by_test (lies_within (range_start i) len a n) refl
     (lies_from all (suc i) lengths a n (λ k. let next : i + suc k ≡ suc i + k = omega arith in subst (λ (j : ℕ). slice_get lengths k ≡ slice_get all j) next (same (suc k))))
   where
-    by_test : (b : Bool) → is_within (range_start i) len a n ≡ b → LiesAt all a n (resolve_from (suc i) lengths a n)
+    by_test : (b : Bool) → lies_within (range_start i) len a n ≡ b → LiesAt all a n (resolve_from (suc i) lengths a n)
         → LiesAt all a n (if b then InRange i (a - range_start i) else resolve_from (suc i) lengths a n)
     by_test false e later = later
     by_test true e later =
@@ -77,7 +77,7 @@ in_a_range lengths a n j r short start None e fits = absurd fits
 in_a_range lengths a n j r short start (Some len) e fits = found_from 0 lengths j j a r n len short e (omega arith) start fits
 
 -- a place where the bytes of an access lie is the one that it is resolved to
-pub found : (lengths : List ℕ) (a n : ℕ) (place : Place) → All (λ l. l < 2 ^ 32) lengths → length lengths ≤ 16 → place ≢ Nowhere
+pub found : (lengths : List ℕ) (a n : ℕ) (place : Location) → All (λ l. l < 2 ^ 32) lengths → length lengths ≤ 16 → place ≢ Nowhere
     → LiesAt lengths a n place → resolve lengths a n ≡ place
 found lengths a n (InRange j r) short few some lies = in_a_range lengths a n j r short lies.0 (slice_get lengths j) refl lies.1
 found lengths a n (InStack r) short few some lies =
@@ -88,3 +88,27 @@ found lengths a n (InStack r) short few some lies =
     not_among 0 lengths a n short (omega arith)
     ∙ ap (λ (b : Bool). if b then InStack (a - stack_start) else Nowhere) inside ∙ ap InStack offset
 found lengths a n Nowhere short few some lies = absurd (some refl)
+
+-- the same of an access for writing
+pub lies_for_writing : (rw : List Bool) (lengths : List ℕ) (a n : ℕ) → LiesAt lengths a n (resolve_to_write rw lengths a n) × IsForWriting rw (resolve_to_write rw lengths a n)
+lies_for_writing rw lengths a n = by_location (resolve lengths a n) (lies_there lengths a n)
+  where
+    by_location : (l : Location) → LiesAt lengths a n l → LiesAt lengths a n (for_writing rw l) × IsForWriting rw (for_writing rw l)
+    by_location (InRange i o) lies = by_test (slice_index_or rw i false) refl
+      where
+        by_test : (b : Bool) → slice_index_or rw i false ≡ b
+            → LiesAt lengths a n (if b then InRange i o else Nowhere) × IsForWriting rw (if b then InRange i o else Nowhere)
+        by_test true t = (lies, t)
+        by_test false t = (tt, tt)
+    by_location (InStack o) lies = (lies, tt)
+    by_location Nowhere lies = (tt, tt)
+
+pub found_for_writing : (rw : List Bool) (lengths : List ℕ) (a n : ℕ) (location : Location) → All (λ l. l < 2 ^ 32) lengths → length lengths ≤ 16
+    → location ≢ Nowhere → LiesAt lengths a n location → IsForWriting rw location → resolve_to_write rw lengths a n ≡ location
+found_for_writing rw lengths a n location short few some lies writable =
+    ap (for_writing rw) (found lengths a n location short few some lies) ∙ by_location location writable
+  where
+    by_location : (l : Location) → IsForWriting rw l → for_writing rw l ≡ l
+    by_location (InRange i o) writable = ap (λ (b : Bool). if b then InRange i o else Nowhere) writable
+    by_location (InStack o) writable = refl
+    by_location Nowhere writable = refl

@@ -2,7 +2,7 @@
 use Rattle.std.specs.Prelude.{ℕ, ◌*◌, ◌%◌, ◌^◌, ◌<◌, ◌==◌}
 use Rattle.std.proofs.Common.{arith}
 use Rattle.std.proofs.lemmas.Nat.{pow_pos, mod_below, and_le_l, or_lt, xor_lt}
-use Rattle.bpf_isa.specs.Size.{bytes_of}
+use Rattle.bpf_isa.specs.Size.{byte_count}
 use Rattle.bpf_isa.specs.declared.operand.Size.{Size}
 use Rattle.bpf_isa.specs.declared.operation.AtomicOp.{AtomicOp}
 use Rattle.bpf_isa.specs.declared.operation.AtomicOp.TheVariants as atomic
@@ -17,7 +17,7 @@ combined_below atomic.Xor width old source r0 h k = xor_lt width old source h k
 combined_below atomic.Xchg width old source r0 h k = k
 combined_below atomic.Cmpxchg width old source r0 h k = cond_below (old == r0) source old _ k h
 
-pub store_below : (op : AtomicOp) (size : Size) (old source r0 : ℕ) → old < 2 ^ (8 * bytes_of size) → stored_by op size old source r0 < 2 ^ (8 * bytes_of size)
+pub store_below : (op : AtomicOp) (size : Size) (old source r0 : ℕ) → old < 2 ^ (8 * byte_count size) → stored_by op size old source r0 < 2 ^ (8 * byte_count size)
 store_below op size old source r0 h =
-    let width : ℕ = 8 * bytes_of size in
+    let width : ℕ = 8 * byte_count size in
     combined_below op width old (source % 2 ^ width) (r0 % 2 ^ width) h (mod_below source _ (pow_pos width))

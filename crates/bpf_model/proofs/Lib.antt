@@ -5,6 +5,7 @@ pub mod BothWays
 pub mod Decoded
 pub mod Read
 pub mod Remainder
+pub mod Sizes
 pub mod Steps
 pub mod Swap
 pub mod Tables

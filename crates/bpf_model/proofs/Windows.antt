@@ -1,11 +1,13 @@
--- The laws of runs: a run is confined to its ranges, and depends on nothing but their bytes.
+-- The laws of runs: a run is confined to its read-write ranges, and depends on nothing but the bytes and accesses of its
+-- ranges.
 use Rattle.std.proofs.Common.{◌≡◌, ℕ, zero, suc, ◌<◌, ◌+◌, List, [], ◌∷◌, length, slice_index, refl, sym, ap, subst, ◌∙◌, arith, inl, inr}
 use Rattle.std.proofs.lemmas.Bool.{cases_lt}
 use Rattle.std.specs.Prelude.{map, slice_index_or, replicate}
+use Rattle.cp_base.specs.declared.lists.Access.TheVariants.{ReadOnly}
 use Rattle.cp_base.specs.declared.lists.MemRange.{MemRange}
 use Rattle.bpf_model.specs.Address.{stack_len}
 use Rattle.bpf_model.specs.Machine.{Machine, entry_machine, frame_pointer}
-use Rattle.bpf_model.specs.Memory.{Memory, bytes_from, range_at, lengths_of, windows_of, Covers, AreApart}
+use Rattle.bpf_model.specs.Memory.{Memory, HoldsBytes, bytes_from, range_at, lengths_of, windows_of, read_write_of, Covers, CoversForWriting, AreApart}
 use Rattle.bpf_model.specs.Outcome.{outcome, outcome_from}
 use Rattle.bpf_model.specs.Step.{Program}
 use Rattle.bpf_model.proofs.Alongside.{range_at-len, Alike, Agree, OutcomeAlong, run-along}
@@ -14,12 +16,16 @@ use Rattle.bpf_model.proofs.Writing.{length-bytes_from, bytes_from-at, bytes_fro
 -- ---- one list of ranges
 
 alike-self : (r : List MemRange) → Alike r r
-alike-self r = record { lengths = refl; there = λ i j k l _ _ same at. (same, at); back = λ i j k l _ _ same at. (same, at) }
+alike-self r = record { lengths = refl; read_write = refl; there = λ i j k l _ _ same at. (same, at); back = λ i j k l _ _ same at. (same, at) }
 
-pub confined : (program : Program) (r : List MemRange) (memory : Memory) (p1 p2 budget ns offset : ℕ) → (Covers r ns offset → ⊥)
+pub confined : (program : Program) (r : List MemRange) (memory : Memory) (p1 p2 budget ns offset : ℕ) → (CoversForWriting r ns offset → ⊥)
     → (outcome program r memory p1 p2 budget).memory ns offset ≡ memory ns offset
 confined program r memory p1 p2 budget ns offset out =
     (run-along program r r (alike-self r) budget (entry_machine r memory p1 p2) memory memory (λ i k less. refl)).kept.rest ns offset out
+
+pub holds-bytes : (program : Program) (r : List MemRange) (memory : Memory) (p1 p2 budget : ℕ) → HoldsBytes memory → HoldsBytes (outcome program r memory p1 p2 budget).memory
+holds-bytes program r memory p1 p2 budget held =
+    (run-along program r r (alike-self r) budget (entry_machine r memory p1 p2) memory memory (λ i k less. refl)).kept.bytes held
 
 local : (program : Program) (r : List MemRange) (a b : Memory) (p1 p2 budget : ℕ) → ((ns offset : ℕ) → Covers r ns offset → a ns offset ≡ b ns offset)
     → OutcomeAlong r r a b (outcome program r a p1 p2 budget) (outcome program r b p1 p2 budget)
@@ -68,7 +74,7 @@ apart-same r apart i j k l less less' same at = elim (cases_lt i j) [
 ]
   where
     empty : MemRange
-    empty = record { ns = 0; at = 0; len = 0 }
+    empty = record { ns = 0; at = 0; len = 0; access = ReadOnly }
 
 lengths-windows : (a : Memory) (r : List MemRange) → map (λ (w : List ℕ). length w) (windows_of a r) ≡ lengths_of r
 lengths-windows a [] = refl
@@ -99,7 +105,7 @@ windows-same a b (x ∷ r) (y ∷ s) lengths agree =
     let here' : bytes_from a x.ns x.at x.len ≡ bytes_from b y.ns y.at y.len = here ∙ ap (λ (n : ℕ). bytes_from b y.ns y.at n) len in
     cc
 
-module _ (r s : List MemRange) (a b : Memory) (r_apart : AreApart r) (s_apart : AreApart s) (same : windows_of a r ≡ windows_of b s) where
+module _ (r s : List MemRange) (a b : Memory) (r_apart : AreApart r) (s_apart : AreApart s) (same : windows_of a r ≡ windows_of b s) (access : read_write_of r ≡ read_write_of s) where
   lengths : lengths_of r ≡ lengths_of s
   lengths = sym (lengths-windows a r) ∙ (ap (λ (ws : List (List ℕ)). map (λ (w : List ℕ). length w) ws) same ∙ lengths-windows b s)
 
@@ -109,6 +115,7 @@ module _ (r s : List MemRange) (a b : Memory) (r_apart : AreApart r) (s_apart : 
   alike : Alike r s
   alike = record {
     lengths = lengths;
+    read_write = access;
     there = λ i j k l less less' ns at.
         let e = apart-same r r_apart i j k l less less' ns at in
         (ap (λ (n : ℕ). (range_at s n).ns) e.0, ap (λ (n : ℕ). (range_at s n).at + k) e.0 ∙ ap (λ (n : ℕ). (range_at s j).at + n) e.1);
@@ -140,12 +147,12 @@ module _ (r s : List MemRange) (a b : Memory) (r_apart : AreApart r) (s_apart : 
         ranges = ranges;
       }
 
-pub windows-ending : (program : Program) (r s : List MemRange) (a b : Memory) (p1 p2 budget : ℕ) → AreApart r → AreApart s → windows_of a r ≡ windows_of b s
+pub windows-ending : (program : Program) (r s : List MemRange) (a b : Memory) (p1 p2 budget : ℕ) → AreApart r → AreApart s → windows_of a r ≡ windows_of b s → read_write_of r ≡ read_write_of s
     → (outcome program r a p1 p2 budget).ending ≡ (outcome program s b p1 p2 budget).ending
-windows-ending program r s a b p1 p2 budget r_apart s_apart same = (by_windows r s a b r_apart s_apart same program p1 p2 budget).ending
+windows-ending program r s a b p1 p2 budget r_apart s_apart same access = (by_windows r s a b r_apart s_apart same access program p1 p2 budget).ending
 
-pub windows-memory : (program : Program) (r s : List MemRange) (a b : Memory) (p1 p2 budget : ℕ) → AreApart r → AreApart s → windows_of a r ≡ windows_of b s
+pub windows-memory : (program : Program) (r s : List MemRange) (a b : Memory) (p1 p2 budget : ℕ) → AreApart r → AreApart s → windows_of a r ≡ windows_of b s → read_write_of r ≡ read_write_of s
     → windows_of (outcome program r a p1 p2 budget).memory r ≡ windows_of (outcome program s b p1 p2 budget).memory s
-windows-memory program r s a b p1 p2 budget r_apart s_apart same =
-    windows-same (outcome program r a p1 p2 budget).memory (outcome program s b p1 p2 budget).memory r s (lengths r s a b r_apart s_apart same)
-    (by_windows r s a b r_apart s_apart same program p1 p2 budget).kept.agree
+windows-memory program r s a b p1 p2 budget r_apart s_apart same access =
+    windows-same (outcome program r a p1 p2 budget).memory (outcome program s b p1 p2 budget).memory r s (lengths r s a b r_apart s_apart same access)
+    (by_windows r s a b r_apart s_apart same access program p1 p2 budget).kept.agree

@@ -4,7 +4,7 @@ use Rattle.std.specs.Prelude.{ℕ, ◌+◌, ◌-◌, ◌*◌, ◌%◌, ◌^◌, 
 use Rattle.std.specs.Option.{option_map_or}
 use Rattle.byteorder.specs.Endian.{little_number, little_bytes}
 use Rattle.cp_base.specs.Pieces.{piece, patched}
-use Rattle.bpf_isa.specs.Size.{bytes_of}
+use Rattle.bpf_isa.specs.Size.{byte_count}
 use Rattle.bpf_isa.specs.declared.end.End.{End}
 use Rattle.bpf_isa.specs.declared.end.End.TheVariants.{Exit, BadAccess, BadJump, CallDepth}
 use Rattle.bpf_isa.specs.declared.insn.Insn.{Insn}
@@ -17,9 +17,9 @@ use Rattle.bpf_isa.specs.declared.operation.AtomicOp.TheVariants as atomic
 use Rattle.bpf_isa.specs.declared.operation.JumpOp.{JumpOp}
 use Rattle.bpf_isa.specs.declared.operation.SwapOp.TheVariants as swap
 use Rattle.bpf_model.specs.declared.frames.SavedFrame.{SavedFrame}
-use Rattle.bpf_model.specs.Address.{Place, InRange, InStack, Nowhere, resolve}
+use Rattle.bpf_model.specs.Address.{Location, InRange, InStack, Nowhere, resolve, resolve_to_write}
 use Rattle.bpf_model.specs.Machine.{Machine, register, with_register, frame_pointer, deepest_frame}
-use Rattle.bpf_model.specs.Memory.{Memory, bytes_from, with_bytes, range_at, lengths_of}
+use Rattle.bpf_model.specs.Memory.{Memory, bytes_from, overwritten, range_at, lengths_of, read_write_of}
 use Rattle.bpf_model.specs.Value.{value_of, compares, swapped, stored_by, sign_extended, unsigned}
 
 -- what an instruction does before the next place is looked at: it goes on with a machine at a target, or
@@ -39,17 +39,17 @@ abbrev pub jump : Machine → ℤ → Effect
 jump m distance = Goes m (pos (m.counter + 1) +ℤ distance)
 
 -- how many bits an operation reads
-abbrev pub width_of : Bool → ℕ
-width_of wide = if wide then 64 else 32
+abbrev pub width_in_bits : Bool → ℕ
+width_in_bits wide = if wide then 64 else 32
 
 -- arithmetic puts the value of an operation on the destination and an operand into the destination (RFC 9669,
 -- section 4.1)
 abbrev pub arithmetic : Machine → AluOp → Bool → ℕ → ℕ → Effect
-arithmetic m op wide dst operand = next (with_register m dst (value_of op (width_of wide) (register m dst) operand))
+arithmetic m op wide dst operand = next (with_register m dst (value_of op (width_in_bits wide) (register m dst) operand))
 
 -- a conditional jump is taken where the comparison of the destination and an operand holds (RFC 9669, section 4.3)
 abbrev pub branch : Machine → JumpOp → Bool → ℕ → ℕ → ℤ → Effect
-branch m op wide dst operand offset = if compares op (width_of wide) (register m dst) operand then jump m offset else next m
+branch m op wide dst operand offset = if compares op (width_in_bits wide) (register m dst) operand then jump m offset else next m
 
 -- ---- memory
 
@@ -57,44 +57,44 @@ branch m op wide dst operand offset = if compares op (width_of wide) (register m
 abbrev pub address : Machine → ℕ → ℤ → ℕ
 address m base offset = (register m base + unsigned 64 offset) % 2 ^ 64
 
--- where an access of this size at an address lies
-abbrev pub place_of : Machine → ℕ → Size → Place
-place_of m at size = resolve (lengths_of m.ranges) at (bytes_of size)
-
--- so many bytes at a place, which has none where it is nowhere
-abbrev pub bytes_at : Machine → Place → ℕ → Option (List ℕ)
+-- so many bytes at a location; none where it is nowhere
+abbrev pub bytes_at : Machine → Location → ℕ → Option (List ℕ)
 bytes_at m (InRange index offset) n = let r = range_at m.ranges index in Some (bytes_from m.memory r.ns (r.at + offset) n)
 bytes_at m (InStack offset) n = Some (piece m.stack offset n)
 bytes_at m Nowhere n = None
 
--- the machine with these bytes at a place
-abbrev pub patched_at : Machine → Place → List ℕ → Option Machine
-patched_at m (InRange index offset) bytes = let r = range_at m.ranges index in Some (record m { memory = with_bytes m.memory r.ns (r.at + offset) bytes })
+-- the machine with these bytes at a location; none where it is nowhere
+abbrev pub patched_at : Machine → Location → List ℕ → Option Machine
+patched_at m (InRange index offset) bytes = let r = range_at m.ranges index in Some (record m { memory = overwritten m.memory r.ns (r.at + offset) bytes })
 patched_at m (InStack offset) bytes = Some (record m { stack = patched m.stack offset bytes })
 patched_at m Nowhere bytes = None
 
--- the number at an address, in little-endian order; none where the access has no place
+-- the number at an address, in little-endian order; none where the access has no location for reading
 abbrev pub loaded : Machine → ℕ → Size → Option ℕ
-loaded m at size = option_map (λ bytes. little_number (bytes_of size) bytes) (bytes_at m (place_of m at size) (bytes_of size))
+loaded m at size =
+    let n = byte_count size in
+    option_map (λ bytes. little_number n bytes) (bytes_at m (resolve (lengths_of m.ranges) at n) n)
 
--- the machine with the low bytes of a value at an address; none where the access has no place
+-- the machine with the low bytes of a value at an address; none where the access has no location for writing
 abbrev pub stored : Machine → ℕ → Size → ℕ → Option Machine
-stored m at size value = patched_at m (place_of m at size) (little_bytes (bytes_of size) value)
+stored m at size value =
+    let n = byte_count size in
+    patched_at m (resolve_to_write (read_write_of m.ranges) (lengths_of m.ranges) at n) (little_bytes n value)
 
--- the effect of an access that has a place, and a fault where it has none
+-- the effect of an access that has a location, and a fault where it has none
 abbrev pub accessed : Machine → Option Effect → Effect
 accessed m effect = unwrap_or effect (Ends (BadAccess m.counter))
 
 -- a load puts a function of the number that is read into the destination (RFC 9669, sections 5.1 and 5.2)
-abbrev pub load : Machine → ℕ → Size → ℕ → (ℕ → ℕ) → Effect
-load m at size dst f = accessed m (option_map (λ n. next (with_register m dst (f n))) (loaded m at size))
+abbrev pub load_number : Machine → ℕ → Size → ℕ → (ℕ → ℕ) → Effect
+load_number m at size dst f = accessed m (option_map (λ n. next (with_register m dst (f n))) (loaded m at size))
 
 -- a store puts the low bytes of a value into memory (RFC 9669, section 5.1)
-abbrev pub store : Machine → ℕ → Size → ℕ → Effect
-store m at size value = accessed m (option_map next (stored m at size value))
+abbrev pub store_number : Machine → ℕ → Size → ℕ → Effect
+store_number m at size value = accessed m (option_map next (stored m at size value))
 
 -- an atomic operation reads the old value, stores the new one and then may put the old one into a register (RFC 9669,
--- section 5.3)
+-- section 5.3). So it needs a location for writing, also where the new value is the old one
 abbrev pub atomic_access : Machine → AtomicOp → ℕ → Size → ℕ → (ℕ → Machine → Machine) → Effect
 atomic_access m op at size source fetch =
     accessed m (option_and_then (λ old. option_map (λ m'. next (fetch old m')) (stored m at size (stored_by op size old source (register m 0)))) (loaded m at size))
@@ -142,10 +142,10 @@ effect insn.CallHelper m = next (with_register m 0 (length_of_range m (register 
 effect (insn.CallLocal imm) m = call m imm
 effect insn.Exit m = return_to m m.frames
 effect (insn.LoadImm dst value) m = Goes (with_register m dst value) (pos (m.counter + 2))
-effect (insn.Load size dst src offset) m = load m (address m src offset) size dst (λ n. n)
-effect (insn.LoadSigned size dst src offset) m = load m (address m src offset) size dst (λ n. sign_extended (8 * bytes_of size) 64 n)
-effect (insn.StoreImm size dst offset imm) m = store m (address m dst offset) size (unsigned 64 imm)
-effect (insn.StoreReg size dst src offset) m = store m (address m dst offset) size (register m src)
+effect (insn.Load size dst src offset) m = load_number m (address m src offset) size dst (λ n. n)
+effect (insn.LoadSigned size dst src offset) m = load_number m (address m src offset) size dst (λ n. sign_extended (8 * byte_count size) 64 n)
+effect (insn.StoreImm size dst offset imm) m = store_number m (address m dst offset) size (unsigned 64 imm)
+effect (insn.StoreReg size dst src offset) m = store_number m (address m dst offset) size (register m src)
 effect (insn.Atomic op size dst src offset) m =
     atomic_access m op (address m dst offset) size (register m src) (λ old m'. m')
 effect (insn.AtomicFetch op size dst src offset) m =

@@ -3,7 +3,7 @@
 -- `/` is the quotient rounded down and `%` the remainder. A `width` is a number of bits, 32 or 64 for arithmetic and
 -- comparisons. Operands may be any numbers: an operation reads the low bits that its width has.
 use Rattle.std.specs.Prelude.{ℕ, zero, suc, ◌+◌, ◌-◌, ◌*◌, ◌/◌, ◌%◌, ◌^◌, ◌==◌, nat_lt, nat_le, Bool, true, false, not, ℤ, pos, negsuc, ◌-ℤ◌, int_div, int_rem, int_lt, int_le, bit_and, bit_or, bit_xor, if◌then◌else◌}
-use Rattle.bpf_isa.specs.Size.{bytes_of}
+use Rattle.bpf_isa.specs.Size.{byte_count}
 use Rattle.bpf_isa.specs.Width.{bits_of}
 use Rattle.bpf_isa.specs.declared.operand.Size.{Size}
 use Rattle.bpf_isa.specs.declared.operand.Size.TheVariants.{B, H, W, D}
@@ -119,4 +119,4 @@ combined atomic.Cmpxchg width old source r0 = if old == r0 then source else old
 -- what memory of this size holds after an atomic operation, for the old value, the source register and R0
 abbrev pub stored_by : AtomicOp → Size → ℕ → ℕ → ℕ → ℕ
 stored_by op size old source r0 =
-    let width : ℕ = 8 * bytes_of size in combined op width old (source % 2 ^ width) (r0 % 2 ^ width)
+    let width : ℕ = 8 * byte_count size in combined op width old (source % 2 ^ width) (r0 % 2 ^ width)

@@ -18,11 +18,11 @@ reaches (suc n) code from place = from == place || option_map_or (λ i. reaches 
 
 -- whether a place is a start: the walk from 0, which has at most one place for each byte and the end,
 -- comes to it before the end
-abbrev pub is_start : List ℕ → ℕ → Bool
-is_start code place = nat_lt (8 * place) (length code) && reaches (suc (length code)) code 0 place
+abbrev pub starts_instruction : List ℕ → ℕ → Bool
+starts_instruction code place = nat_lt (8 * place) (length code) && reaches (suc (length code)) code 0 place
 
 abbrev pub IsStart : List ℕ → ℕ → Type 0
-IsStart code place = IsTrue (is_start code place)
+IsStart code place = IsTrue (starts_instruction code place)
 
 -- the place where the walk from a place stops, which is the first without a form, or the one behind n instructions
 abbrev pub stop_from : ℕ → List ℕ → ℕ → ℕ
@@ -42,4 +42,4 @@ IsWellFormed code = IsTrue (is_well_formed code)
 
 -- the instruction at a start, and none at any other place
 abbrev pub instruction_at : List ℕ → ℕ → Option Insn
-instruction_at code place = if is_start code place then form code place else None
+instruction_at code place = if starts_instruction code place then form code place else None

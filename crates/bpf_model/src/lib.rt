@@ -13,11 +13,11 @@ mod runs;
 mod values;
 mod walks;
 
-pub use addresses::{Place, addresses_are_resolved, example_addresses};
+pub use addresses::{Location, addresses_are_resolved, example_addresses};
 pub use fields::Fields;
 pub use forms::{example_forms, forms_are_encodings};
 pub use frames::SavedFrame;
-pub use laws::{runs_are_confined, runs_are_local, runs_depend_on_windows};
-pub use runs::example_runs;
+pub use laws::{runs_are_confined, runs_are_local, runs_depend_on_windows, runs_keep_sizes};
+pub use runs::{example_runs, example_runs_on_read_only_ranges};
 pub use values::{laws_of_values, values_by_example};
 pub use walks::{code_ends_at_the_bad_place, example_walks};

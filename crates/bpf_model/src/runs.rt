@@ -1,6 +1,6 @@
 //! Worked examples of runs.
 ghost use Rattle.std.specs.Prelude.{◌≡◌};
-ghost use Rattle.bpf_model.specs.Examples.{run_of, run_with, exit_with_7, store_and_load, store_past_the_end, jump_into_a_wide_load, calls_itself, calls_down, fetch_and_add, helper};
+ghost use Rattle.bpf_model.specs.Examples.{run_of, run_with, exit_with_7, store_and_load, store_past_the_end, jump_into_a_wide_load, calls_itself, calls_down, fetch_and_add, helper, load_alone, failing_exchange, reading_run_of};
 
 use bpf_isa::End;
 
@@ -24,4 +24,14 @@ pub fn example_runs()
     ensures sum_is_stored { (run_of fetch_and_add 10).memory 1 16 ≡ 14 }
     ensures length_of_range { (run_with helper 0 2).ending ≡ End.Exit 8 }
     ensures no_such_range { (run_with helper 1 2).ending ≡ End.Exit 0xffff_ffff_ffff_ffff }
+{}
+
+/// Worked examples of runs on the same 8 bytes as a read-only range.
+pub fn example_runs_on_read_only_ranges()
+    ensures byte_is_loaded { (reading_run_of load_alone 10).ending ≡ End.Exit 0 }
+    ensures store_is_refused { (reading_run_of store_and_load 10).ending ≡ End.BadAccess 2 }
+    ensures nothing_stored { (reading_run_of store_and_load 10).memory 1 16 ≡ 0 }
+    ensures failing_exchange_is_refused { (reading_run_of failing_exchange 10).ending ≡ End.BadAccess 4 }
+    ensures failing_exchange_of_a_read_write_range { (run_of failing_exchange 10).ending ≡ End.Exit 0 }
+    ensures nothing_exchanged { (run_of failing_exchange 10).memory 1 16 ≡ 0 }
 {}

@@ -1,6 +1,6 @@
 //! Worked examples and laws of the values of operations.
 ghost use Rattle.std.specs.Prelude.{◌≡◌, ℕ, ◌*◌, ◌%◌, ◌^◌, ◌<◌, bit_and, true, false};
-ghost use Rattle.bpf_isa.specs.Size.{bytes_of};
+ghost use Rattle.bpf_isa.specs.Size.{byte_count};
 ghost use Rattle.bpf_isa.specs.Width.{bits_of};
 ghost use Rattle.bpf_isa.specs.declared.operand.Size.{Size};
 ghost use Rattle.bpf_isa.specs.declared.operand.Width.{Width};
@@ -42,7 +42,7 @@ pub fn laws_of_values()
     // A result has the width of its operation, and what is stored the size of its access.
     ensures value_fits { (op : AluOp) → (width a b : ℕ) → value_of op width a b < 2 ^ width }
     ensures swap_fits { (op : SwapOp) → (bits : Width) → (a : ℕ) → swapped op bits a < 2 ^ bits_of bits }
-    ensures store_fits { (op : AtomicOp) → (size : Size) → (old source r0 : ℕ) → old < 2 ^ (8 * bytes_of size) → stored_by op size old source r0 < 2 ^ (8 * bytes_of size) }
+    ensures store_fits { (op : AtomicOp) → (size : Size) → (old source r0 : ℕ) → old < 2 ^ (8 * byte_count size) → stored_by op size old source r0 < 2 ^ (8 * byte_count size) }
 
     // SMOD is `a - b * (a SDIV b)`, for every divisor.
     ensures remainder_64 { (a b : ℕ) → value_of AluOp.Smod 64 a b ≡ value_of AluOp.Sub 64 a (value_of AluOp.Mul 64 b (value_of AluOp.Sdiv 64 a b)) }

@@ -1,7 +1,7 @@
 //! Laws of the walk over code, and worked examples.
 ghost use Rattle.std.specs.Prelude.{◌≡◌, ◌≢◌, true, false, ℕ, suc, ◌<◌, ◌↔◌, pos, List, [], ◌∷◌, ◌++◌, length, All, IsTrue, IsSome};
 ghost use Rattle.bpf_model.specs.Form.{form};
-ghost use Rattle.bpf_model.specs.Walk.{reaches, bad_place, IsStart, IsWellFormed, is_start, is_well_formed, instruction_at};
+ghost use Rattle.bpf_model.specs.Walk.{reaches, bad_place, IsStart, IsWellFormed, starts_instruction, is_well_formed, instruction_at};
 
 use bpf_isa::{Insn, Size};
 
@@ -27,7 +27,7 @@ pub fn example_walks()
     ensures empty_is_not_well_formed { is_well_formed [] ≡ false }
     ensures cut_is_not_well_formed { is_well_formed (0x95 ∷ 0 ∷ 0 ∷ 0 ∷ 0 ∷ 0 ∷ 0 ∷ 0 ∷ 0xb7 ∷ []) ≡ false }
     ensures exit_is_well_formed { is_well_formed (0x95 ∷ 0 ∷ 0 ∷ 0 ∷ 0 ∷ 0 ∷ 0 ∷ 0 ∷ []) ≡ true }
-    ensures end_is_no_start { is_start (0x95 ∷ 0 ∷ 0 ∷ 0 ∷ 0 ∷ 0 ∷ 0 ∷ 0 ∷ []) 1 ≡ false }
+    ensures end_is_no_start { starts_instruction (0x95 ∷ 0 ∷ 0 ∷ 0 ∷ 0 ∷ 0 ∷ 0 ∷ 0 ∷ []) 1 ≡ false }
     // lddw r1 4294967296, stb r1 0 85
     ensures inside_a_wide_load { instruction_at (0x18 ∷ 1 ∷ 0 ∷ 0 ∷ 0 ∷ 0 ∷ 0 ∷ 0 ∷ 0 ∷ 0 ∷ 0 ∷ 0 ∷ 1 ∷ 0 ∷ 0 ∷ 0
         ∷ 0x72 ∷ 1 ∷ 0 ∷ 0 ∷ 0x55 ∷ 0 ∷ 0 ∷ 0 ∷ []) 1 ≡ None }

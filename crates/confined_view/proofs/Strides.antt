@@ -3,8 +3,8 @@ use Rattle.std.proofs.Common.{◌≡◌, ℕ, ◌+◌, ◌*◌, ◌^◌, ◌<◌
 use Rattle.std.specs.Prelude.{slice_get, IsSomeAnd, All}
 use Rattle.std.proofs.lemmas.Option.{slice_get-get_or, slice_get_within, get_or_from_slice_get}
 use Rattle.bpf_model.specs.Address.{range_start, stack_start, stack_len, resolve, LiesAt}
-use Rattle.bpf_model.specs.declared.addresses.Place.{Place}
-use Rattle.bpf_model.specs.declared.addresses.Place.TheVariants.{InRange, InStack, Nowhere}
+use Rattle.bpf_model.specs.declared.addresses.Location.{Location}
+use Rattle.bpf_model.specs.declared.addresses.Location.TheVariants.{InRange, InStack, Nowhere}
 use Rattle.bpf_model.proofs.Address.{lies_there, found}
 
 -- in the stack
@@ -36,7 +36,7 @@ no_place lengths a n s r short parts small no_range no_stack = by_place (resolve
         let contrary : get_or lengths i 0 < r + n = no_range i stride there in
         absurd (omega (arith, fits))
 
-    by_place : (place : Place) → LiesAt lengths a n place → Nowhere ≡ place
+    by_place : (place : Location) → LiesAt lengths a n place → Nowhere ≡ place
     by_place (InRange i o) lies = by_len i o (slice_get lengths i) refl lies.0 lies.1
     by_place (InStack o) lies =
         let start : stack_start + o ≡ a = lies.0 in

@@ -6,5 +6,7 @@ mod places;
 #[cfg(test)]
 mod tests;
 mod view;
+mod window;
 
 pub use view::View;
+pub use window::Window;

@@ -1,13 +1,19 @@
 //! What no clause says: that calls succeed where there is memory, and worked examples.
-use crate::View;
+use crate::{View, Window};
 use bpf_isa::Size;
 use cp_base::Bytes;
 use std::alloc::Global;
 
-// A view of a window of 8 bytes, one of 7 bytes, and a stack of zeros.
+// A view of a writable window of 8 bytes, one of 7 bytes that is not writable, and a stack of zeros.
 fn two_windows(alloc: Global) -> Option<View> {
-    let first = Bytes::from_slice(alloc, &[1, 2, 3, 4, 5, 6, 7, 8]).ok()?;
-    let second = Bytes::from_slice(alloc, &[11, 12, 13, 14, 15, 16, 17]).ok()?;
+    let first = Window {
+        bytes: Bytes::from_slice(alloc, &[1, 2, 3, 4, 5, 6, 7, 8]).ok()?,
+        writable: true,
+    };
+    let second = Window {
+        bytes: Bytes::from_slice(alloc, &[11, 12, 13, 14, 15, 16, 17]).ok()?,
+        writable: false,
+    };
     let stack = Bytes::filled(alloc, 4096, 0).ok()?;
     Some(View::new(vec![in alloc; first, second].ok()?, stack))
 }
@@ -63,6 +69,7 @@ fn stored(
 fn stores_are_confined(rt: HostRuntime) {
     let value = 0xf0f1_f2f3_f4f5_f6f7;
     let first = 0x1_0000_0000;
+    let second = 0x2_0000_0000;
     let stack = 0x1_0000_0000_0ff8;
     for (address, size, shown, done, number) in [
         (first, Size::B, first, true, 0x0807_0605_0403_02f7),
@@ -71,7 +78,9 @@ fn stores_are_confined(rt: HostRuntime) {
         (first, Size::D, first, true, value),
         (first + 5, Size::W, first, false, 0x0807_0605_0403_0201),
         (first + 7, Size::H, first, false, 0x0807_0605_0403_0201),
-        (0x2_0000_0000, Size::B, first, true, 0x0807_0605_0403_0201),
+        (second, Size::B, first, false, 0x0807_0605_0403_0201),
+        (second + 3, Size::W, first, false, 0x0807_0605_0403_0201),
+        (second + 6, Size::H, first, false, 0x0807_0605_0403_0201),
         (stack, Size::D, stack, true, value),
         (stack + 7, Size::B, stack, true, 0xf700_0000_0000_0000),
         (stack + 7, Size::H, stack, false, 0),
@@ -86,12 +95,33 @@ fn stores_are_confined(rt: HostRuntime) {
     }
 }
 
+// A store into the second window, whose bytes are then what they were.
+fn stored_in_the_second(alloc: Global) -> Option<(bool, Option<u64>, Option<u64>)> {
+    let mut view = two_windows(alloc)?;
+    let done = view.store(0x2_0000_0003, Size::W, 0).is_some();
+    Some((
+        done,
+        view.load(0x2_0000_0000, Size::W),
+        view.load(0x2_0000_0003, Size::W),
+    ))
+}
+
+#[test]
+fn read_only_window_is_not_changed(rt: HostRuntime) {
+    let found = stored_in_the_second(rt.alloc());
+    assert_eq!(rt; found, Some((false, Some(0x0e0d_0c0b), Some(0x1110_0f0e))));
+}
+
 // A view of 16 windows of one byte each, the number of the window.
 fn sixteen_windows(alloc: Global) -> Option<View> {
     let stack = Bytes::filled(alloc, 4096, 0).ok()?;
     let mut windows = Vec::new(alloc);
     for number in 0..16 {
-        windows.push(Bytes::filled(alloc, 1, number).ok()?).ok()?;
+        let window = Window {
+            bytes: Bytes::filled(alloc, 1, number).ok()?,
+            writable: true,
+        };
+        windows.push(window).ok()?;
     }
     Some(View::new(windows, stack))
 }
@@ -120,14 +150,21 @@ fn sixteen_windows_of_one_byte(rt: HostRuntime) {
     }
 }
 
-// How many windows and how many bytes of the stack come back.
-fn given_back(alloc: Global) -> Option<(usize, u64)> {
+// How long the windows and the stack are that come back, and which of the windows are writable.
+fn given_back(alloc: Global) -> Option<([(u64, bool); 2], u64)> {
     let (windows, stack) = two_windows(alloc)?.into_parts();
-    Some((windows.len(), stack.len()))
+    let [first, second] = windows.as_slice() else {
+        return None;
+    };
+    let lens = [
+        (first.bytes.len(), first.writable),
+        (second.bytes.len(), second.writable),
+    ];
+    Some((lens, stack.len()))
 }
 
 #[test]
 fn buffers_come_back(rt: HostRuntime) {
     let found = given_back(rt.alloc());
-    assert_eq!(rt; found, Some((2, 4096)));
+    assert_eq!(rt; found, Some(([(8, true), (7, false)], 4096)));
 }

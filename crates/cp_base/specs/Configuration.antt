@@ -1,5 +1,6 @@
 -- The device's configuration and its limits. This project's own.
 use Rattle.std.specs.Prelude.{◌≡◌, ℕ, zero, suc, replicate, ◌+◌, ◌*◌, ◌≤◌, ◌==◌, ◌⊎◌, List, Option, Some, None, if◌then◌else◌, length, sum, All, slice_get, slice_set}
+use Rattle.cp_base.specs.declared.limits.TheConstants.{NAMESPACES, MAX_NAMESPACE, MAX_TOTAL, MAX_DEPTH, MAX_BUDGET}
 use Rattle.cp_base.specs.declared.region.SpaceId.{SpaceId}
 use Rattle.cp_base.specs.declared.region.SpaceId.TheVariants.{Nvm, Mem}
 
@@ -15,13 +16,13 @@ pub record Configuration : Type 0 where
 -- the limits that every configuration keeps
 pub record IsWithinLimits (c : Configuration) : Type 0 where
   pub block : (c.block ≡ 512) ⊎ (c.block ≡ 4096)
-  pub depth : (1 ≤ c.depth) × (c.depth ≤ 256)
-  pub budget : (1 ≤ c.budget) × (c.budget ≤ 10000000)
-  pub nvm_numbers : length c.nvm ≡ 8
-  pub mem_numbers : length c.mem ≡ 8
-  pub nvm_sizes : All (λ blocks. blocks * c.block ≤ 16777216) c.nvm
-  pub mem_sizes : All (λ bytes. bytes ≤ 16777216) c.mem
-  pub total : sum c.nvm * c.block + sum c.mem ≤ 67108864
+  pub depth : (1 ≤ c.depth) × (c.depth ≤ MAX_DEPTH)
+  pub budget : (1 ≤ c.budget) × (c.budget ≤ MAX_BUDGET)
+  pub nvm_numbers : length c.nvm ≡ NAMESPACES
+  pub mem_numbers : length c.mem ≡ NAMESPACES
+  pub nvm_sizes : All (λ blocks. blocks * c.block ≤ MAX_NAMESPACE) c.nvm
+  pub mem_sizes : All (λ bytes. bytes ≤ MAX_NAMESPACE) c.mem
+  pub total : sum c.nvm * c.block + sum c.mem ≤ MAX_TOTAL
 
 -- the item under a number, which counts from 1
 abbrev pub numbered : {A : Type 0} → List A → ℕ → Option A
@@ -55,8 +56,8 @@ number_of (Mem n) = n
 
 -- namespaces are numbered from 1 to 8
 abbrev pub HasNumber : SpaceId → Type 0
-HasNumber space = (1 ≤ number_of space) × (number_of space ≤ 8)
+HasNumber space = (1 ≤ number_of space) × (number_of space ≤ NAMESPACES)
 
 -- the configuration with no namespace yet
 abbrev pub bare : ℕ → ℕ → ℕ → Configuration
-bare block depth budget = record { block = block; depth = depth; budget = budget; nvm = replicate 8 0; mem = replicate 8 0 }
+bare block depth budget = record { block = block; depth = depth; budget = budget; nvm = replicate NAMESPACES 0; mem = replicate NAMESPACES 0 }

@@ -1,8 +1,14 @@
 pub mod Answer
 pub mod Buffer
-pub mod Built
 pub mod Checks
 pub mod Configuration
 pub mod Contents
+pub mod Growth
+pub mod Known
 pub mod Pieces
 pub mod Region
+pub mod Runs
+pub mod Sets
+pub mod Sharing
+pub mod Touching
+pub mod Words

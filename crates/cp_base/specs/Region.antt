@@ -7,3 +7,7 @@ pub record Region : Type 0 where
   pub space : SpaceId
   pub start : ℕ
   pub len : ℕ
+
+-- the region of a namespace from a place on
+abbrev pub region_of : SpaceId → ℕ → ℕ → Region
+region_of space start len = record { space = space; start = start; len = len }

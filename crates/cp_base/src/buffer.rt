@@ -1,6 +1,7 @@
 // A list of bytes that knows how much room it has left.
 ghost use Rattle.std.specs.Prelude.{◌≡◌, ◌↔◌, IsTrue, ◌+◌, ◌-◌, ◌*◌, ◌≤◌, ◌<◌, [], ◌∷◌, ◌++◌, length, take, drop, replicate, slice_get, IfOk, OnOk, OnErr, vec_len, vec_capacity};
 ghost use Rattle.cp_base.specs.Pieces.{patched};
+ghost use Rattle.cp_base.specs.Growth.{Appended, Reserved};
 
 use crate::NoMemory;
 use std::alloc::Global;
@@ -68,13 +69,9 @@ impl Bytes {
         Ok(())
     }
 
-    /// Takes memory until there is room for `n` more bytes.
+    /// Takes memory only where there is no room for `n` more bytes.
     pub fn reserve(&mut self, n: u64) -> Result<(), NoMemory>
-        ensures items { self.new.items ≡ self.old.items }
-        ensures room { OnOk result (n ≤ self.new.spare) }
-        ensures full { OnErr result (self.old.spare < n) }
-        ensures kept { OnOk result (self.old.spare ≤ self.new.spare) }
-        ensures unchanged { OnErr result (self.new ≡ self.old) }
+        ensures { Reserved result self.old self.new n }
     {
         let wanted = n as usize;
         if wanted > self.room {
@@ -87,8 +84,7 @@ impl Bytes {
     /// Adds bytes at the end, for which there is room.
     pub fn append(&mut self, from: &[u8])
         requires { length from.now ≤ self.old.spare }
-        ensures items { self.new.items ≡ self.old.items ++ from.now }
-        ensures spare { self.new.spare + length from.now ≡ self.old.spare }
+        ensures { Appended self.old self.new from.now }
     {
         self.kept.extend_from_slice(from).unwrap();
         self.room -= from.len();
@@ -112,6 +108,34 @@ impl Bytes {
     {
         let start = at as usize;
         self.kept[start..start + from.len()].copy_from_slice(from);
+    }
+
+    /// Puts the same byte over `n` bytes from place `at` on.
+    pub fn fill(&mut self, at: u64, n: u64, value: u8)
+        requires { at + n ≤ length self.old.items }
+        ensures items { self.new.items ≡ patched self.old.items at (replicate n value) }
+        ensures spare { self.new.spare ≡ self.old.spare }
+    {
+        let kept = self.kept.as_mut_slice();
+        let start = at as usize;
+        kept[start..start + n as usize].fill(value);
+    }
+
+    /// Takes out the bytes from place `at` on, which come without room; their places become room here.
+    /// Without memory for them nothing changes.
+    pub fn split_off(&mut self, at: u64) -> Result<Bytes, NoMemory>
+        requires { at ≤ length self.old.items }
+        ensures taken { IfOk result (λ rest. rest.items ≡ drop at self.old.items) }
+        ensures taken_spare { IfOk result (λ rest. rest.spare ≡ 0) }
+        ensures items { OnOk result (self.new.items ≡ take at self.old.items) }
+        ensures spare { OnOk result (self.new.spare + at ≡ self.old.spare + length self.old.items) }
+        ensures unchanged { OnErr result (self.new ≡ self.old) }
+    {
+        let start = at as usize;
+        let rest = Bytes::from_slice(*self.kept.allocator(), &self.kept[start..])?;
+        self.room += self.kept.len() - start;
+        self.kept.truncate(start);
+        Ok(rest)
     }
 
     /// How many bytes there are.

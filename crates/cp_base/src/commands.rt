@@ -1,5 +1,8 @@
 // The commands that a host can send.
-use crate::{Bytes, RangeList, SourceList};
+ghost use Rattle.std.specs.Prelude.{◌≡◌};
+ghost use Rattle.cp_base.specs.Words.{word_of};
+
+use crate::{Bytes, CommandWord, RangeList, SourceList};
 
 /// A command, with its fields as the host gave them. Fields too large for the device are found when
 /// the command is carried out.
@@ -92,4 +95,35 @@ pub enum Command {
         p2: u64,
         budget: u64,
     },
+    /// Withdraw the command of the same host that is outstanding under an identifier, where it still
+    /// waits.
+    Abort {
+        cid: u32,
+    },
+}
+
+impl Command {
+    /// The word that names the command.
+    pub fn word(&self) -> CommandWord
+        ensures { result ≡ word_of self.now }
+    {
+        match self {
+            Command::NvmRead { .. } => CommandWord::NvmRead,
+            Command::NvmWrite { .. } => CommandWord::NvmWrite,
+            Command::NvmZeroes { .. } => CommandWord::NvmZeroes,
+            Command::NvmCopy { .. } => CommandWord::NvmCopy,
+            Command::MemRead { .. } => CommandWord::MemRead,
+            Command::MemWrite { .. } => CommandWord::MemWrite,
+            Command::MemFill { .. } => CommandWord::MemFill,
+            Command::MemCopy { .. } => CommandWord::MemCopy,
+            Command::SetCreate { .. } => CommandWord::SetCreate,
+            Command::SetDelete { .. } => CommandWord::SetDelete,
+            Command::Load { .. } => CommandWord::Load,
+            Command::Unload { .. } => CommandWord::Unload,
+            Command::Activate { .. } => CommandWord::Activate,
+            Command::Deactivate { .. } => CommandWord::Deactivate,
+            Command::Execute { .. } => CommandWord::Execute,
+            Command::Abort { .. } => CommandWord::Abort,
+        }
+    }
 }

@@ -2,20 +2,14 @@
 ghost use Rattle.std.specs.Prelude.{◌≡◌, ℕ, ◌+◌, ◌*◌, ◌^◌, ◌<◌, ◌≤◌, ◌↔◌, IsTrue, Some, IsSome, IfSome, All, sum, length};
 ghost use Rattle.cp_base.specs.Configuration.{Configuration, IsWithinLimits, HasNumber, bare, numbered, present, size_of, with_numbered, with_size};
 
-use crate::{MAX_NAMESPACE, SpaceId};
+use crate::{MAX_BUDGET, MAX_DEPTH, MAX_NAMESPACE, MAX_TOTAL, NAMESPACES, SpaceId};
 use std::marker::Model;
-
-/// How many namespaces of each kind there can be. They are numbered from 1.
-pub const NAMESPACES: usize = 8;
-
-/// The most bytes of all namespaces together.
-pub const MAX_TOTAL: u64 = 67_108_864;
 
 /// The device's configuration. A size is in blocks for an NVM namespace and in bytes for a memory
 /// namespace, and 0 where there is no such namespace.
 ///
-/// Every configuration keeps the limits: a block of 512 or 4,096 bytes, a queue depth of 1 to 256, a
-/// budget of 1 to 10,000,000 instructions, at most 16,777,216 bytes in a namespace, and at most
+/// Every configuration keeps the limits: a block of 512 or 4,096 bytes, a queue depth of 1 to 4,096, a
+/// budget of 1 to 100,000,000 instructions, at most 16,777,216 bytes in a namespace, and at most
 /// 67,108,864 bytes in all.
 #[derive(Clone, Copy, Debug)]
 pub struct Config {
@@ -40,7 +34,7 @@ impl Model for Config {
 
 // Whether no size in these units is above the largest namespace.
 fn are_sizes(sizes: &[u32; NAMESPACES], unit: u32) -> bool
-    ensures { IsTrue result ↔ All (λ size. size * unit ≤ 16777216) sizes.now }
+    ensures { IsTrue result ↔ All (λ size. size * unit ≤ MAX_NAMESPACE) sizes.now }
 {
     sizes
         .iter()
@@ -69,10 +63,10 @@ fn numbered(sizes: &[u32; NAMESPACES], number: u32) -> Option<u32>
 
 // The sizes with another one under a number, where that is 1 to 8.
 fn with_numbered(mut sizes: [u32; NAMESPACES], number: u32, size: u32) -> Option<[u32; NAMESPACES]>
-    ensures found { IsSome result ↔ ((1 ≤ number) × (number ≤ 8)) }
+    ensures found { IsSome result ↔ ((1 ≤ number) × (number ≤ NAMESPACES)) }
     ensures value { IfSome result (λ found. found ≡ with_numbered sizes number size) }
 {
-    if number == 0 || number > 8 {
+    if number == 0 || number as usize > NAMESPACES {
         return None;
     }
     sizes[number as usize - 1] = size;
@@ -101,8 +95,8 @@ fn checked(
     ensures value { IfSome result (λ c. c ≡ record { block = block; depth = depth; budget = budget; nvm = nvm; mem = mem }) }
 {
     let is_header = (block == 512 || block == 4096)
-        && (1..=256).contains(&depth)
-        && (1..=10_000_000).contains(&budget);
+        && (1..=MAX_DEPTH).contains(&depth)
+        && (1..=MAX_BUDGET).contains(&budget);
     if !is_header || !are_sizes(&nvm, block) || !are_sizes(&mem, 1) {
         return None;
     }
@@ -189,7 +183,7 @@ impl Config {
     /// How many bytes a namespace has. `None` where there is no such namespace.
     pub fn size(&self, space: SpaceId) -> Option<u64>
         ensures value { result ≡ size_of self.now space }
-        ensures bounded { IfSome result (λ bytes. bytes ≤ 16777216) }
+        ensures bounded { IfSome result (λ bytes. bytes ≤ MAX_NAMESPACE) }
     {
         match space {
             SpaceId::Nvm(n) => present(self.block, numbered(&self.nvm, n)?),

@@ -1,12 +1,17 @@
 // The sources of a copy and the ranges of a set, 1 to 16 of them, kept in place.
-ghost use Rattle.std.specs.Prelude.{◌≡◌, ℕ, ◌<◌, ◌≤◌, ◌↔◌, length, IsSome, IfSome};
+ghost use Rattle.std.specs.Prelude.{◌≡◌, ℕ, ◌<◌, ◌≤◌, ◌↔◌, IsTrue, length, IsSome, IfSome};
 
+use crate::MAX_ITEMS;
 use smallvec::SmallVec;
 use std::alloc::Global;
 use std::marker::Model;
 
-/// The most sources of a copy, and the most ranges of a set.
-pub const MAX_ITEMS: usize = 16;
+// Whether a list may have so many items.
+fn is_list(count: usize) -> bool
+    ensures { IsTrue result ↔ ((0 < count) × (count ≤ MAX_ITEMS)) }
+{
+    count > 0 && count <= MAX_ITEMS
+}
 
 /// A part of a namespace that a copy reads.
 #[derive(Clone, Copy, Debug, PartialEq, Eq)]
@@ -28,12 +33,24 @@ impl Default for CopySource {
     }
 }
 
-/// A part of a memory namespace that a set names: `len` bytes from place `at` on.
+/// What a program may do with the bytes of a range.
+#[derive(Clone, Copy, Debug, Default, PartialEq, Eq)]
+pub enum Access {
+    /// Load them.
+    ReadOnly,
+    /// Load them and store into them.
+    #[default]
+    ReadWrite,
+}
+
+/// A part of a memory namespace that a set names: `len` bytes from place `at` on, and what a program
+/// may do with them.
 #[derive(Clone, Copy, Debug, Default, PartialEq, Eq)]
 pub struct MemRange {
     pub ns: u32,
     pub at: u64,
     pub len: u64,
+    pub access: Access,
 }
 
 /// The sources of a copy in their order, 1 to 16 of them.
@@ -44,22 +61,23 @@ pub struct SourceList {
 
 impl Model for SourceList {
     ghost use Rattle.std.specs.Prelude.{List, ◌<◌, ◌≤◌, length};
+    ghost use Rattle.cp_base.specs.declared.limits.TheConstants.{MAX_ITEMS};
     ghost use Rattle.cp_base.specs.declared.lists.CopySource.{CopySource};
 
     ghost Value = { List CopySource };
 
     ghost view = { λ l. l.sources.items };
 
-    ghost invariant = { λ l. (0 < length l.sources.items) × (length l.sources.items ≤ 16) };
+    ghost invariant = { λ l. (0 < length l.sources.items) × (length l.sources.items ≤ MAX_ITEMS) };
 }
 
 impl SourceList {
     /// These sources. `None` where there are none or more than 16.
     pub fn new(alloc: Global, items: &[CopySource]) -> Option<SourceList>
-        ensures found { IsSome result ↔ ((0 < length items.now) × (length items.now ≤ 16)) }
+        ensures found { IsSome result ↔ ((0 < length items.now) × (length items.now ≤ MAX_ITEMS)) }
         ensures value { IfSome result (λ l. l ≡ items.now) }
     {
-        if items.is_empty() || items.len() > MAX_ITEMS {
+        if !is_list(items.len()) {
             return None;
         }
         let sources = SmallVec::from_slice(alloc, items).unwrap();
@@ -70,7 +88,7 @@ impl SourceList {
     pub fn as_slice(&self) -> &[CopySource]
         ensures value { result.now ≡ self.now }
         ensures some { 0 < length result.now }
-        ensures few { length result.now ≤ 16 }
+        ensures few { length result.now ≤ MAX_ITEMS }
     {
         self.sources.as_slice()
     }
@@ -84,22 +102,23 @@ pub struct RangeList {
 
 impl Model for RangeList {
     ghost use Rattle.std.specs.Prelude.{List, ◌<◌, ◌≤◌, length};
+    ghost use Rattle.cp_base.specs.declared.limits.TheConstants.{MAX_ITEMS};
     ghost use Rattle.cp_base.specs.declared.lists.MemRange.{MemRange};
 
     ghost Value = { List MemRange };
 
     ghost view = { λ l. l.ranges.items };
 
-    ghost invariant = { λ l. (0 < length l.ranges.items) × (length l.ranges.items ≤ 16) };
+    ghost invariant = { λ l. (0 < length l.ranges.items) × (length l.ranges.items ≤ MAX_ITEMS) };
 }
 
 impl RangeList {
     /// These ranges. `None` where there are none or more than 16.
     pub fn new(alloc: Global, items: &[MemRange]) -> Option<RangeList>
-        ensures found { IsSome result ↔ ((0 < length items.now) × (length items.now ≤ 16)) }
+        ensures found { IsSome result ↔ ((0 < length items.now) × (length items.now ≤ MAX_ITEMS)) }
         ensures value { IfSome result (λ l. l ≡ items.now) }
     {
-        if items.is_empty() || items.len() > MAX_ITEMS {
+        if !is_list(items.len()) {
             return None;
         }
         let ranges = SmallVec::from_slice(alloc, items).unwrap();
@@ -110,7 +129,7 @@ impl RangeList {
     pub fn as_slice(&self) -> &[MemRange]
         ensures value { result.now ≡ self.now }
         ensures some { 0 < length result.now }
-        ensures few { length result.now ≤ 16 }
+        ensures few { length result.now ≤ MAX_ITEMS }
     {
         self.ranges.as_slice()
     }

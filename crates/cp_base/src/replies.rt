@@ -52,6 +52,8 @@ pub enum Status {
     BudgetSpent,
     /// The device had no memory for the command, which changed nothing.
     NoMemory,
+    /// The command was withdrawn before it was carried out, and changed nothing.
+    Aborted,
 }
 
 /// The answer to a command: its status, a number, and the bytes that were read.

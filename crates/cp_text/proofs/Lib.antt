@@ -1,4 +1,6 @@
 pub mod Choices
+pub mod Cuts
 pub mod HexTexts
+pub mod Joined
 pub mod NumberTexts
 pub mod SignedTexts

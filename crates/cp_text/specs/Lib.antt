@@ -1,3 +1,4 @@
 pub mod HexText
 pub mod Number
+pub mod Parts
 pub mod Signed

@@ -1,7 +1,8 @@
 // Laws of the texts, and worked examples. The functions do nothing; their clauses are the laws.
-ghost use Rattle.std.specs.Prelude.{◌≡◌, ℕ, ◌+◌, ◌*◌, ◌^◌, ◌<◌, ◌≤◌, List, [], ◌∷◌, length, decimal, ℤ, pos, negsuc, FitsSigned, codes};
+ghost use Rattle.std.specs.Prelude.{◌≡◌, ℕ, ◌+◌, ◌*◌, ◌^◌, ◌<◌, ◌≤◌, true, List, [], ◌∷◌, ◌++◌, length, count_by, ◌==◌, decimal, ℤ, pos, negsuc, FitsSigned, codes};
 ghost use Rattle.std.specs.Fmt.{signed_decimal};
 ghost use Rattle.std.specs.Int.{w64};
+ghost use Rattle.cp_text.specs.Parts.{all_lack, joined_by, lacks, parts_between};
 ghost use Rattle.cp_text.specs.Number.{AreDigits, number_of};
 ghost use Rattle.cp_text.specs.Signed.{AreSignedDigits, signed_of};
 ghost use Rattle.cp_text.specs.HexText.{AreBytes, AreHexDigits, hex_of, hex_text};
@@ -44,6 +45,19 @@ pub fn hex_laws()
     ensures len { (bytes : List ℕ) → length (hex_text bytes) ≡ 2 * length bytes }
 {}
 
+/// The parts of a text with the mark between are the text, and they are one more than its marks. Parts
+/// without a mark are found again, and so are a part and the text behind its mark.
+pub fn part_laws()
+    ensures joined_again { (mark : ℕ) (text : List ℕ) → joined_by mark (parts_between mark text) ≡ text }
+    ensures number { (mark : ℕ) (text : List ℕ)
+        → length (parts_between mark text) ≡ count_by (λ byte. byte == mark) text + 1 }
+    ensures parts_again { (mark : ℕ) (part : List ℕ) (parts : List (List ℕ))
+        → all_lack mark (part ∷ parts) ≡ true
+        → parts_between mark (joined_by mark (part ∷ parts)) ≡ part ∷ parts }
+    ensures first_again { (mark : ℕ) (part rest : List ℕ) → lacks mark part ≡ true
+        → parts_between mark (part ++ mark ∷ rest) ≡ part ∷ parts_between mark rest }
+{}
+
 /// What some texts are read as: numbers at the limits, and texts that are nearly numbers.
 pub fn number_examples()
     ensures empty { number_of [] ≡ None }
@@ -76,4 +90,12 @@ pub fn hex_examples()
     ensures odd { hex_of (codes "0a0") ≡ None }
     ensures no_digit { hex_of (codes "0g") ≡ None }
     ensures written { hex_text (10 ∷ 255 ∷ []) ≡ codes "0aff" }
+{}
+
+/// What some texts are cut into at spaces, code 32.
+pub fn part_examples()
+    ensures empty { parts_between 32 [] ≡ [] ∷ [] }
+    ensures uncut { parts_between 32 (codes "ab") ≡ codes "ab" ∷ [] }
+    ensures three { parts_between 32 (codes "a bc ") ≡ codes "a" ∷ codes "bc" ∷ [] ∷ [] }
+    ensures joined { joined_by 32 (codes "a" ∷ [] ∷ codes "b" ∷ []) ≡ codes "a  b" }
 {}

@@ -94,3 +94,27 @@ fn long_hex_is_written_and_read(rt: HostRuntime) -> Result<(), Fail> {
     assert_eq!(rt; read.as_slice(), bytes.as_slice());
     Ok(())
 }
+
+#[test]
+fn texts_are_cut(rt: HostRuntime) {
+    let (front, rest) = split_part(b"ab:c:", b':');
+    assert_eq!(rt; front, b"ab".as_slice());
+    assert_eq!(rt; rest, Some(b"c:".as_slice()));
+    let (front, rest) = split_part(b":", b':');
+    assert_eq!(rt; front, b"".as_slice());
+    assert_eq!(rt; rest, Some(b"".as_slice()));
+    let (front, rest) = split_part(b"ab", b':');
+    assert_eq!(rt; front, b"ab".as_slice());
+    assert_eq!(rt; rest, None);
+}
+
+#[test]
+fn lines_are_cut(rt: HostRuntime) {
+    assert_eq!(rt;
+        next_line(b"a b\n\nc"),
+        Some((b"a b".as_slice(), b"\nc".as_slice()))
+    );
+    assert_eq!(rt; next_line(b"\n"), Some((b"".as_slice(), b"".as_slice())));
+    assert_eq!(rt; next_line(b"a b"), None);
+    assert_eq!(rt; next_line(b""), None);
+}

@@ -7,6 +7,7 @@ use Rattle.cp_base.specs.declared.commands.Command.{Command}
 use Rattle.cp_base.specs.declared.commands.Command.TheVariants as command
 use Rattle.cp_base.specs.declared.lists.CopySource.{CopySource}
 use Rattle.cp_base.specs.declared.lists.CopySource.TheVariants as source
+use Rattle.cp_base.specs.declared.lists.Access.TheVariants.{ReadOnly, ReadWrite}
 use Rattle.cp_base.specs.declared.lists.MemRange.{MemRange}
 use Rattle.cp_base.specs.declared.region.SpaceId.TheVariants as space
 use Rattle.cp_base.specs.declared.replies.Status.{Status}
@@ -28,7 +29,11 @@ abbrev pub from_memory : ℕ → ℕ → CopySource
 from_memory at len = source.Mem 1 at len
 
 abbrev pub range : ℕ → ℕ → MemRange
-range at len = record { ns = 1; at = at; len = len }
+range at len = record { ns = 1; at = at; len = len; access = ReadWrite }
+
+-- the same that may only be read
+abbrev pub read_only : ℕ → ℕ → MemRange
+read_only at len = record { ns = 1; at = at; len = len; access = ReadOnly }
 
 -- the answers to commands that are carried out one after the other, and the state after them
 pub record Told : Type 0 where
@@ -71,3 +76,12 @@ abbrev pub stores_past_the_end : List ℕ
 stores_past_the_end =
     (24 ∷ 1 ∷ 0 ∷ 0 ∷ 0 ∷ 0 ∷ 0 ∷ 0 ∷ []) ++ (0 ∷ 0 ∷ 0 ∷ 0 ∷ 1 ∷ 0 ∷ 0 ∷ 0 ∷ [])
     ++ (114 ∷ 1 ∷ 0 ∷ 0 ∷ 85 ∷ 0 ∷ 0 ∷ 0 ∷ []) ++ (114 ∷ 1 ∷ 16 ∷ 0 ∷ 85 ∷ 0 ∷ 0 ∷ 0 ∷ [])
+
+-- the same, and a program of the device executed on the set, whose first range has the bytes 0 to 7
+abbrev pub executes_builtin : List MemRange → ℕ → ℕ → ℕ → ℕ → List Command
+executes_builtin ranges slot p1 p2 budget =
+    write 1 0 (0 ∷ 1 ∷ 2 ∷ 3 ∷ 4 ∷ 5 ∷ 6 ∷ 7 ∷ []) ∷ command.SetCreate ranges ∷ command.Execute slot 1 p1 p2 budget ∷ []
+
+-- two ranges of eight bytes
+abbrev pub two_ranges : List MemRange
+two_ranges = range 0 8 ∷ range 8 8 ∷ []

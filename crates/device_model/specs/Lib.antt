@@ -1,7 +1,9 @@
+pub mod Builtin
 pub mod Checks
 pub mod Effect
 pub mod Examples
 pub mod Execution
 pub mod Memory
+pub mod Sized
 pub mod State
 pub mod Step

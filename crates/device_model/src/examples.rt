@@ -1,6 +1,6 @@
 // Worked examples of the definitions. The functions do nothing: what they ensure is what is proved.
 ghost use Rattle.std.specs.Prelude.{◌≡◌, ◌∷◌, ◌++◌, []};
-ghost use Rattle.device_model.specs.Examples.{executes, exits_with_7, from_memory, load, range, results, shown_after, statuses, stores_past_the_end, write};
+ghost use Rattle.device_model.specs.Examples.{executes, exits_with_7, executes_builtin, from_memory, load, range, read_only, results, shown_after, statuses, stores_past_the_end, two_ranges, write};
 
 use cp_base::{Command, Status};
 
@@ -60,4 +60,18 @@ pub fn executions_by_example()
     ensures fault { statuses (executes stores_past_the_end 10) ≡ Status.Ok ∷ Status.Ok ∷ Status.Ok ∷ Status.BadAccess ∷ [] }
     ensures place { results (executes stores_past_the_end 10) ≡ 1 ∷ 0 ∷ 0 ∷ 3 ∷ [] }
     ensures kept { shown_after (executes stores_past_the_end 10) 0 2 ≡ 85 ∷ 0 ∷ [] }
+{}
+
+/// Programs of the device on a memory of 16 bytes that begins with 0 to 7.
+pub fn device_programs_by_example()
+    ensures count { results (executes_builtin two_ranges 64 0 0 16) ≡ 0 ∷ 1 ∷ 9 ∷ [] }
+    ensures dear { statuses (executes_builtin two_ranges 64 0 0 15) ≡ Status.Ok ∷ Status.Ok ∷ Status.BudgetSpent ∷ [] }
+    ensures sum { results (executes_builtin two_ranges 65 0 0 16) ≡ 0 ∷ 1 ∷ 28 ∷ [] }
+    ensures compare { results (executes_builtin two_ranges 66 0 0 8) ≡ 0 ∷ 1 ∷ 1 ∷ [] }
+    ensures equal { results (executes_builtin (range 0 8 ∷ []) 66 0 0 8) ≡ 0 ∷ 1 ∷ 18446744073709551615 ∷ [] }
+    ensures classes { results (executes_builtin two_ranges 67 259 5 8) ≡ 0 ∷ 1 ∷ 3 ∷ [] }
+    ensures marks { shown_after (executes_builtin two_ranges 67 3 5 8) 8 8 ≡ 0 ∷ 0 ∷ 0 ∷ 1 ∷ 1 ∷ 1 ∷ 0 ∷ 0 ∷ [] }
+    ensures read_only { statuses (executes_builtin (range 0 8 ∷ read_only 8 8 ∷ []) 67 3 5 8) ≡ Status.Ok ∷ Status.Ok ∷ Status.BadAccess ∷ [] }
+    ensures unchanged { shown_after (executes_builtin (range 0 8 ∷ read_only 8 8 ∷ []) 67 0 255 8) 8 2 ≡ 0 ∷ 0 ∷ [] }
+    ensures behind { statuses (executes_builtin two_ranges 68 0 0 8) ≡ Status.Ok ∷ Status.Ok ∷ Status.NoSuchSlot ∷ [] }
 {}

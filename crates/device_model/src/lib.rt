@@ -2,7 +2,10 @@
 #![tactic(auto)]
 
 mod examples;
+mod laws;
 
 pub use examples::{
-    copies_by_example, executions_by_example, sets_by_example, slots_by_example, writes_by_example,
+    copies_by_example, device_programs_by_example, executions_by_example, sets_by_example,
+    slots_by_example, writes_by_example,
 };
+pub use laws::answers_are_sized;

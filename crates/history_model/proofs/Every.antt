@@ -1,5 +1,5 @@
 -- What holds of every element, by recursion on the list.
-use Rattle.std.proofs.Common.{Bool, true, false, List, [], ◌∷◌, ◌++◌, cond, map, filter}
+use Rattle.std.proofs.Common.{suc, Bool, true, false, List, [], ◌∷◌, ◌++◌, cond, map, filter}
 use Rattle.std.specs.List.{AllByRecursion, All, AllPairs}
 use Rattle.std.proofs.lemmas.List.Elements.{All-cons}
 use Rattle.std.proofs.lemmas.List.Kept.{AllPairs-cons}
@@ -28,6 +28,10 @@ every-filter P test (x ∷ xs) all = kept P (test x) x (filter test xs) all.0 (e
 pub every-All : {A : Type 0} (P : A → Type 0) (xs : List A) → AllByRecursion P xs → All P xs
 every-All P [] all = λ k d below. absurd (omega arith)
 every-All P (x ∷ xs) all = All-cons P x xs all.0 (every-All P xs all.1)
+
+pub every-of-All : {A : Type 0} (P : A → Type 0) (xs : List A) → All P xs → AllByRecursion P xs
+every-of-All P [] all = tt
+every-of-All P (x ∷ xs) all = (all 0 x (omega arith), every-of-All P xs (λ k d below. all (suc k) d (omega arith)))
 
 -- each element has the relation to each later one
 abbrev pub Pairwise : {A : Type 0} → (A → A → Type 0) → List A → Type 0

@@ -1,10 +1,9 @@
 -- Legal histories of one plan with one text are one history.
-use Rattle.std.proofs.Common.{◌≡◌, ℕ, zero, suc, ◌+◌, ◌<◌, false, eqb, List, [], ◌∷◌, ◌++◌, length, get_or, map, Option, Some, refl, sym, ap, subst, ◌∙◌, arith, inl, inr, ◌⊎◌, append_assoc}
+use Rattle.std.proofs.Common.{◌≡◌, ℕ, zero, suc, ◌+◌, ◌<◌, true, List, [], ◌∷◌, ◌++◌, length, get_or, map, Option, Some, refl, sym, ap, subst, ◌∙◌, arith, inl, inr, ◌⊎◌, append_assoc}
 use Rattle.std.specs.Prelude.{decimal, find, ◌^◌}
-use Rattle.std.specs.List.{All, AllByRecursion, Contains, list_any}
+use Rattle.std.specs.List.{All, AllByRecursion, Contains}
 use Rattle.std.specs.List.Sorted.{IsPermutation}
 use Rattle.std.specs.Str.{bytes_eq}
-use Rattle.std.proofs.lemmas.Bool.{eq-eqb}
 use Rattle.std.proofs.lemmas.Fmt.{decimal_injective}
 use Rattle.std.proofs.lemmas.List.{append_cancel_left}
 use Rattle.std.proofs.lemmas.List.Elements.{All-contains_itself}
@@ -14,17 +13,18 @@ use Rattle.cp_base.specs.Configuration.{Configuration}
 use Rattle.cp_base.specs.declared.replies.Status.{Status}
 use Rattle.cp_base.specs.declared.replies.Status.TheVariants as status
 use Rattle.cp_text.specs.HexText.{hex_text}
+use Rattle.cp_text.specs.Parts.{lacks}
 use Rattle.cp_text.proofs.HexTexts.{hex_text-one}
-use Rattle.script_cmds.specs.Line.{word_of, word_text}
+use Rattle.cp_text.proofs.Joined.{decimal_lacks, hex_lacks, same_cut}
+use Rattle.cp_base.specs.Words.{word_of, word_text}
 use Rattle.script_cmds.specs.declared.item.Phase.{Phase}
 use Rattle.script_cmds.specs.declared.item.Show.{Show}
-use Rattle.script_cmds.specs.declared.word.CommandWord.{CommandWord}
-use Rattle.script_cmds.specs.declared.word.CommandWord.TheVariants as word
-use Rattle.script_cmds.proofs.Marks.{Lacks, either_false, decimal_lacks, hex_lacks}
+use Rattle.cp_base.specs.declared.words.CommandWord.{CommandWord}
+use Rattle.cp_base.specs.declared.words.CommandWord.TheVariants as word
 use Rattle.history_model.specs.Entry.{Entry}
 use Rattle.history_model.specs.Legal.{IsLegal, last_state}
 use Rattle.history_model.specs.Sent.{Sent, sends_of}
-use Rattle.history_model.specs.Sized.{IsSized}
+use Rattle.history_model.specs.Sized.{IsSizedEntry}
 use Rattle.history_model.specs.Text.{entries_text, entry_text, history_text, shows_text, status_text}
 use Rattle.history_model.proofs.Every.{Pairwise}
 use Rattle.history_model.proofs.Order.{Precedes, sends-in-order}
@@ -32,7 +32,7 @@ use Rattle.history_model.proofs.Order.{Precedes, sends-in-order}
 -- ---- names are unique
 
 -- an element of a list
-abbrev Among : {A : Type 0} → List A → A → Type 0
+abbrev pub Among : {A : Type 0} → List A → A → Type 0
 Among [] x = ⊥
 Among (y ∷ ys) x = (x ≡ y) ⊎ Among ys x
 
@@ -41,7 +41,7 @@ among-at [] k x below is = absurd (omega arith)
 among-at (y ∷ ys) zero x below is = inl (sym is)
 among-at (y ∷ ys) (suc k) x below is = inr (among-at ys k x (omega arith) is)
 
-every-among : {A : Type 0} (P : A → Type 0) (xs : List A) (x : A) → AllByRecursion P xs → Among xs x → P x
+pub every-among : {A : Type 0} (P : A → Type 0) (xs : List A) (x : A) → AllByRecursion P xs → Among xs x → P x
 every-among P [] x all found = absurd found
 every-among P (y ∷ ys) x all (inl is) = subst P (sym is) all.0
 every-among P (y ∷ ys) x all (inr found) = every-among P ys x all.1 found
@@ -63,7 +63,7 @@ unique (y ∷ ys) a b order (inr p) (inl q) h o =
     absurd (omega arith)
 unique (y ∷ ys) a b order (inr p) (inr q) h o = unique ys a b order.1 p q h o
 
-each-among : (whole sends : List Sent) (h : List Entry) → IsPermutation whole sends → All (Contains whole) (map (λ (e : Entry). e.sent) h) → AllByRecursion (λ (e : Entry). Among sends e.sent) h
+pub each-among : (whole sends : List Sent) (h : List Entry) → IsPermutation whole sends → All (Contains whole) (map (λ (e : Entry). e.sent) h) → AllByRecursion (λ (e : Entry). Among sends e.sent) h
 each-among whole sends [] moved all = tt
 each-among whole sends (e ∷ es) moved all =
     let found = Contains-permutation whole sends e.sent moved (all 0 e.sent (omega arith)) in
@@ -71,29 +71,13 @@ each-among whole sends (e ∷ es) moved all =
 
 -- ---- texts are cut at one place
 
-cut-same : (mark : ℕ) (a b x y : List ℕ) → Lacks mark a → Lacks mark b → a ++ mark ∷ x ≡ b ++ mark ∷ y → (a ≡ b) × (x ≡ y)
-cut-same mark [] [] x y p q e = (refl, cc)
-cut-same mark [] (c ∷ cs) x y p q e =
-    let other : eqb c mark ≡ false = (either_false (eqb c mark) (list_any (λ byte. eqb byte mark) cs) q).0 in
-    let same : c ≡ mark = sym cc in
-    absurd (cc (eq-eqb c mark same))
-cut-same mark (c ∷ cs) [] x y p q e =
-    let other : eqb c mark ≡ false = (either_false (eqb c mark) (list_any (λ byte. eqb byte mark) cs) p).0 in
-    let same : c ≡ mark = cc in
-    absurd (cc (eq-eqb c mark same))
-cut-same mark (c ∷ cs) (d ∷ ds) x y p q e =
-    let rest : cs ++ mark ∷ x ≡ ds ++ mark ∷ y = cc in
-    let first : c ≡ d = cc in
-    let h = cut-same mark cs ds x y (either_false (eqb c mark) (list_any (λ byte. eqb byte mark) cs) p).1 (either_false (eqb d mark) (list_any (λ byte. eqb byte mark) ds) q).1 rest in
-    (ap (λ (n : ℕ). n ∷ cs) first ∙ ap (λ (t : List ℕ). d ∷ t) h.0, h.1)
-
 -- a number, a space and what stands behind it
 cut-number : (m n : ℕ) (x y : List ℕ) → m < 2 ^ 64 → n < 2 ^ 64 → decimal m ++ 32 ∷ x ≡ decimal n ++ 32 ∷ y → (m ≡ n) × (x ≡ y)
 cut-number m n x y p q e =
-    let h = cut-same 32 (decimal m) (decimal n) x y (decimal_lacks 32 m (inl (omega arith)) p) (decimal_lacks 32 n (inl (omega arith)) q) e in
+    let h = same_cut 32 (decimal m) (decimal n) x y (decimal_lacks 32 m (inl (omega arith)) p) (decimal_lacks 32 n (inl (omega arith)) q) e in
     (decimal_injective m n p q h.0, h.1)
 
-word-lacks : (w : CommandWord) → Lacks 32 (word_text w)
+word-lacks : (w : CommandWord) → lacks 32 (word_text w) ≡ true
 word-lacks word.NvmRead = refl
 word-lacks word.NvmWrite = refl
 word-lacks word.NvmZeroes = refl
@@ -109,8 +93,9 @@ word-lacks word.Unload = refl
 word-lacks word.Activate = refl
 word-lacks word.Deactivate = refl
 word-lacks word.Execute = refl
+word-lacks word.Abort = refl
 
-status-lacks : (s : Status) → Lacks 32 (status_text s)
+status-lacks : (s : Status) → lacks 32 (status_text s) ≡ true
 status-lacks status.Ok = refl
 status-lacks status.BadNamespace = refl
 status-lacks status.BadLength = refl
@@ -135,12 +120,13 @@ status-lacks status.BadJump = refl
 status-lacks status.CallDepth = refl
 status-lacks status.BudgetSpent = refl
 status-lacks status.NoMemory = refl
+status-lacks status.Aborted = refl
 
 all-statuses : List Status
 all-statuses =
     status.Ok ∷ status.BadNamespace ∷ status.BadLength ∷ status.TooLong ∷ status.OutOfRange ∷ status.CopyOverlap ∷ status.SetTableFull ∷ status.RangeOverlap
     ∷ status.NoSuchSet ∷ status.NoSuchSlot ∷ status.SlotEmpty ∷ status.SlotPartial ∷ status.SlotComplete ∷ status.SlotActive ∷ status.SlotInactive ∷ status.SizeDiffers
-    ∷ status.PieceOverlap ∷ status.BadProgram ∷ status.BudgetRange ∷ status.BadAccess ∷ status.BadJump ∷ status.CallDepth ∷ status.BudgetSpent ∷ status.NoMemory ∷ []
+    ∷ status.PieceOverlap ∷ status.BadProgram ∷ status.BudgetRange ∷ status.BadAccess ∷ status.BadJump ∷ status.CallDepth ∷ status.BudgetSpent ∷ status.NoMemory ∷ status.Aborted ∷ []
 
 status-of : List ℕ → Option Status
 status-of text = find (λ s. bytes_eq text (status_text s)) all-statuses
@@ -171,6 +157,7 @@ status-again status.BadJump = refl
 status-again status.CallDepth = refl
 status-again status.BudgetSpent = refl
 status-again status.NoMemory = refl
+status-again status.Aborted = refl
 
 some-is : (s t : Status) → Some s ≡ Some t → s ≡ t
 some-is s t e = cc
@@ -206,7 +193,7 @@ same-answer a b s r d =
 tail-same : (a b : ℕ) (x y : List ℕ) → a ∷ x ≡ b ∷ y → x ≡ y
 tail-same a b x y e = cc
 
-line-tells : (k : ℕ) (e f : Entry) (x y : List ℕ) → IsSized e → IsSized f → entry_text k e ++ x ≡ entry_text k f ++ y → Tells e f x y
+line-tells : (k : ℕ) (e f : Entry) (x y : List ℕ) → IsSizedEntry e → IsSizedEntry f → entry_text k e ++ x ≡ entry_text k f ++ y → Tells e f x y
 line-tells k e f x y p q same =
     let E : List ℕ = told e.sent.host e.sent.ordinal e.sent.cid (word_of e.sent.command) e.answer.status e.answer.result e.answer.bytes x in
     let F : List ℕ = told f.sent.host f.sent.ordinal f.sent.cid (word_of f.sent.command) f.answer.status f.answer.result f.answer.bytes y in
@@ -217,10 +204,10 @@ line-tells k e f x y p q same =
     let b = cut-number e.sent.host f.sent.host _ _ p.host q.host (tail-same _ _ _ _ (tail-same _ _ _ _ a)) in
     let c = cut-number e.sent.ordinal f.sent.ordinal _ _ p.ordinal q.ordinal (tail-same _ _ _ _ b.1) in
     let d = cut-number e.sent.cid f.sent.cid _ _ p.cid q.cid (tail-same _ _ _ _ c.1) in
-    let w = cut-same 32 (word_text (word_of e.sent.command)) (word_text (word_of f.sent.command)) _ _ (word-lacks (word_of e.sent.command)) (word-lacks (word_of f.sent.command)) d.1 in
-    let s = cut-same 32 (status_text e.answer.status) (status_text f.answer.status) _ _ (status-lacks e.answer.status) (status-lacks f.answer.status) w.1 in
+    let w = same_cut 32 (word_text (word_of e.sent.command)) (word_text (word_of f.sent.command)) _ _ (word-lacks (word_of e.sent.command)) (word-lacks (word_of f.sent.command)) d.1 in
+    let s = same_cut 32 (status_text e.answer.status) (status_text f.answer.status) _ _ (status-lacks e.answer.status) (status-lacks f.answer.status) w.1 in
     let r = cut-number e.answer.result f.answer.result _ _ p.result q.result (tail-same _ _ _ _ (tail-same _ _ _ _ s.1)) in
-    let h = cut-same 10 (hex_text e.answer.bytes) (hex_text f.answer.bytes) x y (hex_lacks 10 e.answer.bytes (inl (omega arith)) p.bytes) (hex_lacks 10 f.answer.bytes (inl (omega arith)) q.bytes) (tail-same _ _ _ _ (tail-same _ _ _ _ r.1)) in
+    let h = same_cut 10 (hex_text e.answer.bytes) (hex_text f.answer.bytes) x y (hex_lacks 10 e.answer.bytes (inl (omega arith)) p.bytes) (hex_lacks 10 f.answer.bytes (inl (omega arith)) q.bytes) (tail-same _ _ _ _ (tail-same _ _ _ _ r.1)) in
     record {
       host = b.0;
       ordinal = c.0;
@@ -237,7 +224,7 @@ same-entry e f s a =
     ap by_sent s ∙ ap by_answer a
 
 same-entries : (k : ℕ) (sends : List Sent) (es fs : List Entry) (x y : List ℕ) → Pairwise Precedes sends → length es ≡ length fs
-    → AllByRecursion (λ (e : Entry). Among sends e.sent) es → AllByRecursion (λ (e : Entry). Among sends e.sent) fs → All IsSized es → All IsSized fs
+    → AllByRecursion (λ (e : Entry). Among sends e.sent) es → AllByRecursion (λ (e : Entry). Among sends e.sent) fs → All IsSizedEntry es → All IsSizedEntry fs
     → entries_text k es ++ x ≡ entries_text k fs ++ y → es ≡ fs
 same-entries k sends [] [] x y order len p q a b same = refl
 same-entries k sends [] (f ∷ fs) x y order len p q a b same = absurd (omega arith)
@@ -253,7 +240,7 @@ length-map : {A B : Type 0} (f : A → B) (xs : List A) → length (map f xs) �
 length-map f [] = refl
 length-map f (x ∷ xs) = ap (λ (n : ℕ). suc n) (length-map f xs)
 
-pub one-history : (c : Configuration) (plan : List Phase) (shows : List Show) (hs gs : List Entry) → IsLegal c plan hs → IsLegal c plan gs → All IsSized hs → All IsSized gs → history_text c shows hs ≡ history_text c shows gs → hs ≡ gs
+pub one-history : (c : Configuration) (plan : List Phase) (shows : List Show) (hs gs : List Entry) → IsLegal c plan hs → IsLegal c plan gs → All IsSizedEntry hs → All IsSizedEntry gs → history_text c shows hs ≡ history_text c shows gs → hs ≡ gs
 one-history c plan shows hs gs p q a b same =
     let sent : Entry → Sent = λ e. e.sent in
     let sends = sends_of plan in

@@ -1,14 +1,14 @@
 -- The commands of a plan in the order of the text: phases do not fall, and each host counts on.
-use Rattle.std.proofs.Common.{◌≡◌, ℕ, ◌+◌, ◌<◌, ◌≤◌, ◌==◌, not, inl, inr, List, [], ◌∷◌, ◌++◌, cond, filter, arith, refl, sym, ◌∙◌, ap}
+use Rattle.std.proofs.Common.{◌≡◌, ℕ, ◌+◌, ◌<◌, ◌≤◌, ◌==◌, not, inl, inr, List, [], ◌∷◌, ◌++◌, cond, filter, length, arith, refl, sym, ◌∙◌, ap}
 use Rattle.std.specs.List.{AllByRecursion, AllPairs, Contains}
 use Rattle.std.specs.Prelude.{count_by}
 use Rattle.std.proofs.lemmas.Bool.{eq-eqb}
-use Rattle.std.proofs.lemmas.List.Sums.{sum_by-append, sum_by-cons}
+use Rattle.std.proofs.lemmas.List.Sums.{count_by-le-length, sum_by-append, sum_by-cons}
 use Rattle.script_cmds.specs.declared.item.Item.{Item}
 use Rattle.script_cmds.specs.declared.item.Item.TheVariants as item
 use Rattle.script_cmds.specs.declared.item.HostPart.{HostPart}
 use Rattle.script_cmds.specs.declared.item.Phase.{Phase}
-use Rattle.history_model.specs.Sent.{Sent, Waiting, TakenBefore, ordinals_of, sends_of_items, sends_of_parts, sends_of_phases, sends_of, next_ordinal}
+use Rattle.history_model.specs.Sent.{Sent, Waiting, TakenBefore, named_in, ordinals_of, sends_of_items, sends_of_parts, sends_of_phases, sends_of, next_ordinal}
 use Rattle.history_model.proofs.Every.{every-weaker, every-append, every-map, every-filter, every-All, Pairwise, pairwise-AllPairs, pairwise-append}
 
 -- one command stands before another in the text
@@ -47,7 +47,7 @@ pub items-from : (host phase ordinal : ℕ) (waiting : List Waiting) (taken : Li
     → AllByRecursion (λ (w : Waiting). w.ordinal < ordinal) waiting → AllByRecursion (λ t. t < ordinal) taken
     → AllByRecursion (IsFrom host phase ordinal) (sends_of_items host phase ordinal waiting taken items)
 items-from host phase ordinal waiting taken [] ws ts = tt
-items-from host phase ordinal waiting taken (item.Send cid command ∷ items) ws ts =
+items-from host phase ordinal waiting taken (item.Send cid sent ∷ items) ws ts =
     let here : Waiting = record { cid = cid; ordinal = ordinal } in (
       record { host = refl; phase = refl; ordinal = omega arith; taken = ts },
       every-weaker (IsFrom host phase (ordinal + 1)) (IsFrom host phase ordinal) (later-too host phase ordinal)
@@ -66,9 +66,9 @@ pub items-order : (host phase ordinal : ℕ) (waiting : List Waiting) (taken : L
     → AllByRecursion (λ (w : Waiting). w.ordinal < ordinal) waiting → AllByRecursion (λ t. t < ordinal) taken
     → Pairwise Precedes (sends_of_items host phase ordinal waiting taken items)
 items-order host phase ordinal waiting taken [] ws ts = tt
-items-order host phase ordinal waiting taken (item.Send cid command ∷ items) ws ts =
+items-order host phase ordinal waiting taken (item.Send cid sent ∷ items) ws ts =
     let here : Waiting = record { cid = cid; ordinal = ordinal } in
-    let first : Sent = record { host = host; ordinal = ordinal; cid = cid; phase = phase; command = command.value; taken = taken } in
+    let first : Sent = record { host = host; ordinal = ordinal; cid = cid; phase = phase; command = sent.value; taken = taken; named = named_in waiting sent.value } in
     let rest = sends_of_items host phase (ordinal + 1) (waiting ++ here ∷ []) taken items in
     let ws' = every-append (λ (w : Waiting). w.ordinal < ordinal + 1) waiting (here ∷ []) (next-below ordinal waiting ws) (omega arith, tt) in
     let ts' = next-taken ordinal taken ts in (
@@ -90,9 +90,9 @@ sends_by host all = count_by (λ (s : Sent). s.host == host) all
 items-counted : (host phase ordinal : ℕ) (waiting : List Waiting) (taken : List ℕ) (items : List Item)
     → AllByRecursion (λ (s : Sent). s.ordinal < ordinal + sends_by host (sends_of_items host phase ordinal waiting taken items)) (sends_of_items host phase ordinal waiting taken items)
 items-counted host phase ordinal waiting taken [] = tt
-items-counted host phase ordinal waiting taken (item.Send cid command ∷ items) =
+items-counted host phase ordinal waiting taken (item.Send cid sent ∷ items) =
     let here : Waiting = record { cid = cid; ordinal = ordinal } in
-    let first : Sent = record { host = host; ordinal = ordinal; cid = cid; phase = phase; command = command.value; taken = taken } in
+    let first : Sent = record { host = host; ordinal = ordinal; cid = cid; phase = phase; command = sent.value; taken = taken; named = named_in waiting sent.value } in
     let rest = sends_of_items host phase (ordinal + 1) (waiting ++ here ∷ []) taken items in
     let more = sum_by-cons (λ (s : Sent). cond (s.host == host) 1 0) first rest in
     let one : cond {A = ℕ} (host == host) 1 0 ≡ 1 = rw (eq-eqb host host refl) refl in
@@ -177,15 +177,23 @@ next-phase phase all order = record {
   pairs = order.pairs;
 }
 
-phases-in-order : (phase : ℕ) (earlier : List Sent) (phases : List Phase) → InOrder phase earlier → Pairwise Precedes (sends_of_phases phase earlier phases)
-phases-in-order phase earlier [] order = order.pairs
+phases-in-order : (phase : ℕ) (earlier : List Sent) (phases : List Phase) → InOrder phase earlier
+    → (last : ℕ) × InOrder last (sends_of_phases phase earlier phases)
+phases-in-order phase earlier [] order = (phase, order)
 phases-in-order phase earlier (p ∷ phases) order =
     phases-in-order (phase + 1) (sends_of_parts phase earlier p.hosts) phases
     (next-phase phase (sends_of_parts phase earlier p.hosts) (parts-in-order phase earlier p.hosts order))
 
 -- the commands of a plan stand in order
 pub sends-in-order : (plan : List Phase) → Pairwise Precedes (sends_of plan)
-sends-in-order plan = phases-in-order 1 [] plan (none-in-order 1)
+sends-in-order plan = (phases-in-order 1 [] plan (none-in-order 1)).1.pairs
+
+-- no ordinal is above the number of commands
+pub ordinals-few : (plan : List Phase) → AllByRecursion (λ (s : Sent). s.ordinal ≤ length (sends_of plan)) (sends_of plan)
+ordinals-few plan =
+    let order = phases-in-order 1 [] plan (none-in-order 1) in
+    every-weaker (IsAmongEarlier order.0 (sends_of plan)) (λ (s : Sent). s.ordinal ≤ length (sends_of plan))
+    (λ s among. omega (arith, among.ordinal, count_by-le-length (λ (other : Sent). other.host == s.host) (sends_of plan))) (sends_of plan) order.1.each
 
 -- what is below a number is not that number or above
 not-above : (n : ℕ) (taken : List ℕ) (t : ℕ) → AllByRecursion (λ x. x < n) taken → Contains taken t → t < n

@@ -1,6 +1,7 @@
 -- What the phases of a script or a plan say, however their commands are shared. This project's own.
 use Rattle.std.specs.Prelude.{ℕ, List, map}
 use Rattle.cp_base.specs.declared.commands.Command.{Command}
+use Rattle.script_cmds.specs.Hosts.{hosts_of}
 use Rattle.script_cmds.specs.declared.item.Item.{Item}
 use Rattle.script_cmds.specs.declared.item.Item.TheVariants as item
 use Rattle.script_cmds.specs.declared.item.HostPart.{HostPart}
@@ -37,5 +38,5 @@ abbrev pub plain_phases : List Phase → List (List PlainPart)
 plain_phases phases = map plain_phase phases
 
 -- the hosts of each phase, in order
-abbrev pub hosts_of : List Phase → List (List ℕ)
-hosts_of phases = map (λ (phase : Phase). map (λ (part : HostPart). part.host) phase.hosts) phases
+abbrev pub hosts_by_phase : List Phase → List (List ℕ)
+hosts_by_phase phases = map (λ (phase : Phase). hosts_of phase.hosts) phases

@@ -1,7 +1,10 @@
--- What holds of every plan: the rules of queues, kept to the end of each part. This project's own; that
+-- What holds of every plan: the rules of queues, kept to the end of each part, and which hosts act. This
+-- project's own; that
 -- a command identifier is unique among the outstanding commands of its queue, and that a queue has a
 -- depth, is NVMe's (Base Specification, submission queues).
-use Rattle.std.specs.Prelude.{◌≡◌, ℕ, ◌<◌, ◌==◌, not, List, [], ◌∷◌, ◌++◌, length, filter, All, Contains}
+use Rattle.std.specs.Prelude.{◌≡◌, ℕ, ◌<◌, ◌≤◌, ◌==◌, not, List, [], ◌∷◌, ◌++◌, length, filter, All, Contains}
+use Rattle.cp_base.specs.declared.limits.TheConstants.{MAX_HOSTS}
+use Rattle.script_cmds.specs.Hosts.{AscendFrom, hosts_of}
 use Rattle.script_cmds.specs.declared.item.Item.{Item}
 use Rattle.script_cmds.specs.declared.item.Item.TheVariants as item
 use Rattle.script_cmds.specs.declared.item.HostPart.{HostPart}
@@ -21,6 +24,12 @@ KeepsQueue depth outstanding (item.Send cid command ∷ items) =
 KeepsQueue depth outstanding (item.Take cid ∷ items) = Contains outstanding cid × KeepsQueue depth (without cid outstanding) items
 
 -- a phase has a host, and each host's part keeps the rules of its queue
-pub record KeepsRules (depth : ℕ) (phase : Phase) : Type 0 where
+pub record KeepsQueues (depth : ℕ) (phase : Phase) : Type 0 where
   pub acted : 0 < length phase.hosts
   pub queues : All (λ (part : HostPart). KeepsQueue depth [] part.items) phase.hosts
+
+-- the same, and the hosts of the phase ascend and are 1 to 16
+pub record KeepsRules (depth : ℕ) (phase : Phase) : Type 0 where
+  pub queues : KeepsQueues depth phase
+  pub ascend : AscendFrom 0 (hosts_of phase.hosts)
+  pub numbers : All (λ host. host ≤ MAX_HOSTS) (hosts_of phase.hosts)

@@ -1,15 +1,18 @@
 -- The commands of a plan, each as its host sends it, and which of them have to come before which. This
 -- project's own.
-use Rattle.std.specs.Prelude.{◌≡◌, ℕ, ◌+◌, ◌<◌, ◌==◌, not, ◌⊎◌, List, [], ◌∷◌, ◌++◌, Contains, count_by, filter, map}
+use Rattle.std.specs.Prelude.{◌≡◌, ℕ, ◌+◌, ◌<◌, ◌==◌, not, ◌⊎◌, List, [], ◌∷◌, ◌++◌, Option, Some, None, Contains, count_by, filter, map}
+use Rattle.std.specs.List.{last_or}
 use Rattle.cp_base.specs.declared.commands.Command.{Command}
+use Rattle.cp_base.specs.declared.commands.Command.TheVariants as command
 use Rattle.script_cmds.specs.declared.item.Item.{Item}
 use Rattle.script_cmds.specs.declared.item.Item.TheVariants as item
 use Rattle.script_cmds.specs.declared.item.HostPart.{HostPart}
 use Rattle.script_cmds.specs.declared.item.Phase.{Phase}
 
 -- A command as it is sent. Its name is its host and its ordinal, which counts the host's sends from 1
--- over all phases. With it go its identifier, the number of its phase, the command, and the ordinals of
--- the host's commands that the host has taken before it sends this one.
+-- over all phases. With it go its identifier, the number of its phase, the command, the ordinals of the
+-- host's commands that the host has taken before it sends this one, and, for an Abort, the ordinal of the
+-- command that it names.
 pub record Sent : Type 0 where
   pub host : ℕ
   pub ordinal : ℕ
@@ -17,6 +20,7 @@ pub record Sent : Type 0 where
   pub phase : ℕ
   pub command : Command
   pub taken : List ℕ
+  pub named : Option ℕ
 
 -- an outstanding command of a host
 pub record Waiting : Type 0 where
@@ -27,11 +31,31 @@ pub record Waiting : Type 0 where
 abbrev pub ordinals_of : ℕ → List Waiting → List ℕ
 ordinals_of cid waiting = map (λ (w : Waiting). w.ordinal) (filter (λ (w : Waiting). w.cid == cid) waiting)
 
+-- The ordinal of the command that an Abort names: of the outstanding commands of its host the last that
+-- was sent under the identifier. None where there is none, and of every other command.
+abbrev pub named_in : List Waiting → Command → Option ℕ
+named_in waiting (command.NvmRead ns lba count) = None
+named_in waiting (command.NvmWrite ns lba bytes) = None
+named_in waiting (command.NvmZeroes ns lba count) = None
+named_in waiting (command.NvmCopy ns lba from) = None
+named_in waiting (command.MemRead ns at len) = None
+named_in waiting (command.MemWrite ns at bytes) = None
+named_in waiting (command.MemFill ns at len value) = None
+named_in waiting (command.MemCopy ns at from) = None
+named_in waiting (command.SetCreate ranges) = None
+named_in waiting (command.SetDelete set) = None
+named_in waiting (command.Load slot size at bytes) = None
+named_in waiting (command.Unload slot) = None
+named_in waiting (command.Activate slot) = None
+named_in waiting (command.Deactivate slot) = None
+named_in waiting (command.Execute slot set p1 p2 budget) = None
+named_in waiting (command.Abort cid) = last_or None (ordinals_of cid waiting)
+
 -- the commands that a host sends by these items, from an ordinal on
 abbrev pub sends_of_items : ℕ → ℕ → ℕ → List Waiting → List ℕ → List Item → List Sent
 sends_of_items host phase ordinal waiting taken [] = []
-sends_of_items host phase ordinal waiting taken (item.Send cid command ∷ items) =
-    record { host = host; ordinal = ordinal; cid = cid; phase = phase; command = command.value; taken = taken }
+sends_of_items host phase ordinal waiting taken (item.Send cid sent ∷ items) =
+    record { host = host; ordinal = ordinal; cid = cid; phase = phase; command = sent.value; taken = taken; named = named_in waiting sent.value }
     ∷ sends_of_items host phase (ordinal + 1) (waiting ++ record { cid = cid; ordinal = ordinal } ∷ []) taken items
 sends_of_items host phase ordinal waiting taken (item.Take cid ∷ items) =
     sends_of_items host phase ordinal (filter (λ (w : Waiting). not (w.cid == cid)) waiting) (taken ++ ordinals_of cid waiting) items
@@ -59,3 +83,7 @@ sends_of plan = sends_of_phases 1 [] plan
 -- to an earlier phase
 abbrev pub TakenBefore : Sent → Sent → Type 0
 TakenBefore first second = (first.phase < second.phase) ⊎ ((first.host ≡ second.host) × Contains second.taken first.ordinal)
+
+-- an Abort names a command of its host
+abbrev pub Names : Sent → Sent → Type 0
+Names abort other = (abort.host ≡ other.host) × (abort.named ≡ Some other.ordinal)

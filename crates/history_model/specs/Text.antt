@@ -1,13 +1,14 @@
 -- What is printed of a history. This project's own.
 use Rattle.std.specs.Prelude.{ℕ, ◌+◌, ◌-◌, ◌%◌, ◌^◌, List, [], ◌∷◌, ◌++◌, codes, decimal, length, sum_by, count_by, Bool, true, false}
 use Rattle.cp_base.specs.Configuration.{Configuration}
+use Rattle.cp_base.specs.Words.{word_of, word_text}
+use Rattle.cp_base.specs.declared.words.CommandWord.{CommandWord}
 use Rattle.cp_base.specs.declared.replies.Status.{Status}
 use Rattle.cp_base.specs.declared.replies.Status.TheVariants as status
 use Rattle.cp_text.specs.HexText.{hex_text}
-use Rattle.script_cmds.specs.Line.{line_text, word_text, word_of}
+use Rattle.script_line.specs.Line.{line_text}
 use Rattle.script_cmds.specs.Text.{show_line}
 use Rattle.script_cmds.specs.declared.item.Show.{Show}
-use Rattle.script_cmds.specs.declared.word.CommandWord.{CommandWord}
 use Rattle.cp_base.specs.Contents.{Contents, bytes_in}
 use Rattle.history_model.specs.Entry.{Entry}
 use Rattle.history_model.specs.Legal.{last_state}
@@ -38,6 +39,7 @@ status_text status.BadJump = codes "BadJump"
 status_text status.CallDepth = codes "CallDepth"
 status_text status.BudgetSpent = codes "BudgetSpent"
 status_text status.NoMemory = codes "NoMemory"
+status_text status.Aborted = codes "Aborted"
 
 -- a number after these letters
 abbrev pub lettered : List ℕ → ℕ → List ℕ
@@ -71,9 +73,33 @@ shows_text contents (show ∷ shows) = shown_text show (bytes_in contents show.r
 abbrev pub history_text : Configuration → List Show → List Entry → List ℕ
 history_text c shows history = entries_text 1 history ++ shows_text (last_state c history).contents shows
 
+-- whether a status is Ok
 abbrev pub is_ok_status : Status → Bool
 is_ok_status status.Ok = true
-is_ok_status _ = false
+is_ok_status status.BadNamespace = false
+is_ok_status status.BadLength = false
+is_ok_status status.TooLong = false
+is_ok_status status.OutOfRange = false
+is_ok_status status.CopyOverlap = false
+is_ok_status status.SetTableFull = false
+is_ok_status status.RangeOverlap = false
+is_ok_status status.NoSuchSet = false
+is_ok_status status.NoSuchSlot = false
+is_ok_status status.SlotEmpty = false
+is_ok_status status.SlotPartial = false
+is_ok_status status.SlotComplete = false
+is_ok_status status.SlotActive = false
+is_ok_status status.SlotInactive = false
+is_ok_status status.SizeDiffers = false
+is_ok_status status.PieceOverlap = false
+is_ok_status status.BadProgram = false
+is_ok_status status.BudgetRange = false
+is_ok_status status.BadAccess = false
+is_ok_status status.BadJump = false
+is_ok_status status.CallDepth = false
+is_ok_status status.BudgetSpent = false
+is_ok_status status.NoMemory = false
+is_ok_status status.Aborted = false
 
 -- the four lines of a summary, by their numbers
 abbrev pub lines_of_summary : ℕ → ℕ → ℕ → ℕ → List ℕ

@@ -1,6 +1,6 @@
 // Worked examples of the definitions. The functions do nothing: what they ensure is what is proved.
-ghost use Rattle.std.specs.Prelude.{◌≡◌, ◌++◌, ◌∷◌, [], codes};
-ghost use Rattle.history_model.specs.Examples.{answered, fill, filled, look, looked, one_host, one_phase, part, script_of, sending, small_device, two_hosts};
+ghost use Rattle.std.specs.Prelude.{◌≡◌, ◌++◌, ◌∷◌, [], None, Some, codes};
+ghost use Rattle.history_model.specs.Examples.{answered, fill, fill_and_withdraw, filled, look, looked, named_by, one_host, one_phase, part, script_of, sending, small_device, told, two_hosts, withdraw, withdrawing};
 ghost use Rattle.history_model.specs.Legal.{IsLegal};
 ghost use Rattle.history_model.specs.Plain.{plain_phases};
 ghost use Rattle.history_model.specs.Plan.{QueueFull, CidBusy, NotOutstanding, NoHosts, breaks, plan_of};
@@ -8,6 +8,8 @@ ghost use Rattle.history_model.specs.Sent.{sends_of};
 ghost use Rattle.history_model.specs.Text.{entry_text, shown_text};
 ghost use Rattle.script_cmds.specs.declared.item.Item.TheVariants as item;
 ghost use Rattle.cp_base.specs.declared.region.SpaceId.TheVariants as space;
+
+use cp_base::Status;
 
 /// Scripts that break a rule of queues, each by the first line that does.
 pub fn faults_of_plans_by_example()
@@ -32,6 +34,22 @@ pub fn histories_by_example()
     ensures fill_first { (shared : _) → IsLegal (small_device 1) (two_hosts shared) (answered filled [] ∷ answered looked (7 ∷ 7 ∷ []) ∷ []) }
     ensures look_first { (shared : _) → IsLegal (small_device 1) (two_hosts shared) (answered looked (0 ∷ 0 ∷ []) ∷ answered filled [] ∷ []) }
     ensures not_legal { (shared : _) → IsLegal (small_device 1) (two_hosts shared) (answered looked (7 ∷ 7 ∷ []) ∷ answered filled [] ∷ []) → ⊥ }
+{}
+
+/// An Abort names a command of its host that waits, never itself and none of an earlier phase. It stands
+/// directly before the command that it withdraws, or withdraws none.
+pub fn aborts_by_example()
+    ensures sent { (shared : _) → sends_of (fill_and_withdraw shared) ≡ filled ∷ withdrawing ∷ [] }
+    ensures last { (shared : _) → named_by (one_phase (part 1 (sending shared 1 fill ∷ sending shared 2 (withdraw 1) ∷ item.Take 1
+        ∷ sending shared 1 fill ∷ sending shared 3 (withdraw 1) ∷ []) ∷ [])) ≡ None ∷ Some 1 ∷ None ∷ Some 3 ∷ [] }
+    ensures taken { (shared : _) → named_by (one_phase (part 1 (sending shared 1 fill ∷ item.Take 1 ∷ sending shared 2 (withdraw 1) ∷ []) ∷ [])) ≡ None ∷ None ∷ [] }
+    ensures itself { (shared : _) → named_by (one_phase (part 1 (sending shared 1 (withdraw 1) ∷ []) ∷ [])) ≡ None ∷ [] }
+    ensures earlier_phase { (shared : _) → named_by (one_phase (part 1 (sending shared 1 fill ∷ []) ∷ []) ++ one_phase (part 1 (sending shared 2 (withdraw 1) ∷ []) ∷ [])) ≡ None ∷ None ∷ [] }
+    ensures other_host { (shared : _) → named_by (one_phase (part 1 (sending shared 1 fill ∷ []) ∷ part 2 (sending shared 2 (withdraw 1) ∷ []) ∷ [])) ≡ None ∷ None ∷ [] }
+    ensures withdrawn { (shared : _) → IsLegal (small_device 2) (fill_and_withdraw shared) (told withdrawing Status.Ok 0 ∷ told filled Status.Aborted 0 ∷ []) }
+    ensures too_late { (shared : _) → IsLegal (small_device 2) (fill_and_withdraw shared) (told filled Status.Ok 0 ∷ told withdrawing Status.Ok 1 ∷ []) }
+    ensures wrong_order { (shared : _) → IsLegal (small_device 2) (fill_and_withdraw shared) (told filled Status.Aborted 0 ∷ told withdrawing Status.Ok 0 ∷ []) → ⊥ }
+    ensures not_withdrawn { (shared : _) → IsLegal (small_device 2) (fill_and_withdraw shared) (told withdrawing Status.Ok 0 ∷ told filled Status.Ok 0 ∷ []) → ⊥ }
 {}
 
 /// The line of an entry and the line of a show, to the byte.

@@ -5,6 +5,10 @@ mod examples;
 mod laws;
 
 pub use examples::{
-    faults_of_plans_by_example, histories_by_example, lines_by_example, plans_by_example,
+    aborts_by_example, faults_of_plans_by_example, histories_by_example, lines_by_example,
+    plans_by_example,
 };
-pub use laws::{file_order_is_legal, step_is_settled, text_tells_the_history};
+pub use laws::{
+    file_order_is_legal, hosts_of_a_phase_differ, legal_histories_are_sized,
+    none_is_withdrawn_without_an_abort, step_is_settled, text_tells_the_history,
+};

@@ -1,14 +1,18 @@
 -- The commands of a plan in the order of its text, and that carrying them out so gives a legal history.
-use Rattle.std.proofs.Common.{◌≡◌, ℕ, ◌+◌, ◌==◌, cond, List, [], ◌∷◌, ◌++◌, get_or, map, sym, refl, ap, subst, ◌∙◌, arith}
+use Rattle.std.proofs.Common.{◌≡◌, ℕ, ◌+◌, ◌==◌, cond, IsTrue, List, [], ◌∷◌, ◌++◌, get_or, map, sym, refl, ap, subst, ◌∙◌, arith}
 use Rattle.std.specs.Prelude.{AllPairs, IsPermutation, count_by}
-use Rattle.std.specs.List.{concat}
+use Rattle.std.specs.List.{AllByRecursion, concat}
 use Rattle.std.proofs.Math.ListN.{get_or-map}
+use Rattle.std.proofs.lemmas.Bool.{false≢true}
 use Rattle.std.proofs.lemmas.List.{map-append, length-map}
 use Rattle.std.proofs.lemmas.List.Sums.{sum_by-cons}
 use Rattle.std.proofs.lemmas.List.Sorted.{IsPermutation-refl}
+use Rattle.built_commands.specs.Built.{is_built}
 use Rattle.cp_base.specs.Answer.{Answer}
 use Rattle.cp_base.specs.Configuration.{Configuration}
 use Rattle.cp_base.specs.Contents.{Contents, bytes_in}
+use Rattle.cp_base.specs.declared.commands.Command.{Command}
+use Rattle.cp_base.specs.declared.commands.Command.TheVariants as command
 use Rattle.script_cmds.specs.declared.item.Item.{Item}
 use Rattle.script_cmds.specs.declared.item.Item.TheVariants as item
 use Rattle.script_cmds.specs.declared.item.HostPart.{HostPart}
@@ -22,6 +26,7 @@ use Rattle.history_model.specs.Sent.{Sent, Waiting, TakenBefore, next_ordinal, s
 use Rattle.history_model.specs.Text.{entries_text, shown_text, shows_text}
 use Rattle.history_model.proofs.Order.{file-order}
 use Rattle.history_model.proofs.Settled.{settled}
+use Rattle.history_model.proofs.Withdrawn.{IsDone, IsNoAbort, none_paired}
 use Rattle.nvmecp.specs.Lines.{place_line, place_lines, shown_lines}
 use Rattle.nvmecp.specs.Place.{Place, CarriesOut, count_of, place_of, places_of_items, places_of_parts, places_of_phases, with_part}
 
@@ -96,8 +101,8 @@ replayed c s [] answers last h = tt
 replayed c s (sent ∷ sents) [] last h = absurd h
 replayed c s (sent ∷ sents) (answer ∷ answers) last h =
     let after : State = after_entry c s (record { sent = sent; answer = answer }) in
-    let is : h.0 ≡ after = first_settled c s sent answer h.0 h.1 in (
-      subst (λ (x : State). DeviceStep c s sent.command answer x) is h.1,
+    let is : h.0 ≡ after = first_settled c s sent answer h.0 h.1.step in (
+      subst (λ (x : State). DeviceStep c s sent.command answer x) is h.1.step,
       subst (λ (x : State). Replays c x (entries_of sents answers)) is (replayed c h.0 sents answers last h.2),
     )
 
@@ -108,7 +113,7 @@ last_is c s [] [] last h = sym h
 last_is c s [] (answer ∷ answers) last h = absurd h
 last_is c s (sent ∷ sents) [] last h = absurd h
 last_is c s (sent ∷ sents) (answer ∷ answers) last h =
-    let is : h.0 ≡ after_entry c s (record { sent = sent; answer = answer }) = first_settled c s sent answer h.0 h.1 in
+    let is : h.0 ≡ after_entry c s (record { sent = sent; answer = answer }) = first_settled c s sent answer h.0 h.1.step in
     ap (λ (x : State). after_history c x (entries_of sents answers)) (sym is) ∙ last_is c h.0 sents answers last h.2
 
 -- the lines are the history's text
@@ -129,6 +134,24 @@ pairs_of_entries R entries all = λ i j d before below.
     let pair : R (get_or (map f entries) i (f d)) (get_or (map f entries) j (f d)) = all i j (f d) before (omega (arith, below, length-map entries f)) in
     subst (λ (x : Sent). R (f (get_or entries i d)) x) (get_or-map f entries j d) (subst (λ (x : Sent). R x (get_or (map f entries) j (f d))) (get_or-map f entries i d) pair)
 
+-- a command that this version carries out is no Abort
+no_abort : (sent : Sent) → IsTrue (is_built sent.command) → IsNoAbort sent
+no_abort sent built = λ cid e. let none : IsTrue (is_built (command.Abort cid)) = subst (λ (cmd : Command). IsTrue (is_built cmd)) e built in false≢true none
+
+-- none of the commands is an Abort
+no_aborts : (c : Configuration) (s : State) (sents : List Sent) (answers : List Answer) (last : State) → CarriesOut c s (map place_of sents) answers last
+    → AllByRecursion (λ (entry : Entry). IsNoAbort entry.sent) (entries_of sents answers)
+no_aborts c s [] answers last h = tt
+no_aborts c s (sent ∷ sents) [] last h = tt
+no_aborts c s (sent ∷ sents) (answer ∷ answers) last h = (no_abort sent h.1.built, no_aborts c h.0 sents answers last h.2)
+
+-- and none was withdrawn
+none_withdrawn : (c : Configuration) (s : State) (sents : List Sent) (answers : List Answer) (last : State) → CarriesOut c s (map place_of sents) answers last
+    → AllByRecursion IsDone (entries_of sents answers)
+none_withdrawn c s [] answers last h = tt
+none_withdrawn c s (sent ∷ sents) [] last h = tt
+none_withdrawn c s (sent ∷ sents) (answer ∷ answers) last h = (h.1.done, none_withdrawn c h.0 sents answers last h.2)
+
 -- a plan's commands carried out in the order of its text have a legal history
 pub legal : (c : Configuration) (plan : List Phase) (answers : List Answer) (last : State) → CarriesOut c (opening c) (map place_of (sends_of plan)) answers last
     → IsLegal c plan (entries_of (sends_of plan) answers)
@@ -140,4 +163,5 @@ legal c plan answers last h =
       each_once = subst (λ (xs : List Sent). IsPermutation (map (λ (entry : Entry). entry.sent) (entries_of sents answers)) xs) back (IsPermutation-refl _);
       in_order = pairs_of_entries R (entries_of sents answers) (subst (λ (xs : List Sent). AllPairs R xs) (sym back) (file-order plan));
       replays = replayed c (opening c) sents answers last h;
+      paired = none_paired (entries_of sents answers) (no_aborts c (opening c) sents answers last h) (none_withdrawn c (opening c) sents answers last h);
     }

@@ -1,6 +1,6 @@
 pub mod BuiltSends
 pub mod Counts
-pub mod Dues
+pub mod Endings
 pub mod Fronts
 pub mod Inputs
 pub mod Legal

@@ -15,7 +15,7 @@ use Rattle.history_model.specs.Sent.{Sent, sends_of}
 use Rattle.history_model.specs.Text.{entries_text, shows_text}
 use Rattle.script_plan.specs.Meant.{meant}
 use Rattle.nvmecp.specs.Finished.{IsFinished, finished_text}
-use Rattle.nvmecp.specs.Script.{IsPrintOf}
+use Rattle.nvmecp.specs.Step.{IsPrintOf}
 use Rattle.nvmecp.specs.Lines.{place_lines, shown_lines}
 use Rattle.nvmecp.specs.Place.{Place, CarriesOut, place_of, places_of_phases}
 use Rattle.nvmecp.specs.Shown.{places_of}

@@ -1,5 +1,5 @@
 -- The shows of a script that keeps its order and limits lie inside its namespaces.
-use Rattle.std.proofs.Common.{◌≡◌, ℕ, suc, ◌+◌, ◌≤◌, nat_le, ◌==◌, Bool, true, false, ◌&&◌, List, [], ◌∷◌, ◌++◌, length, replicate, Ok, Err, is_ok, if◌then◌else◌, sym, refl, ap, subst, ◌∙◌, arith}
+use Rattle.std.proofs.Common.{◌≡◌, ℕ, suc, ◌+◌, ◌≤◌, nat_le, nat_lt, ◌==◌, Bool, true, false, ◌&&◌, List, [], ◌∷◌, ◌++◌, length, replicate, Ok, Err, is_ok, if◌then◌else◌, sym, refl, ap, subst, ◌∙◌, arith}
 use Rattle.std.specs.Prelude.{slice_set, unwrap_or}
 use Rattle.std.specs.List.{AllByRecursion}
 use Rattle.std.proofs.Math.Seq.{set-append_seam}
@@ -9,30 +9,33 @@ use Rattle.std.proofs.lemmas.List.{append_assoc}
 use Rattle.cp_base.specs.Configuration.{Configuration, bare, size_of}
 use Rattle.cp_base.specs.declared.region.SpaceId.{SpaceId}
 use Rattle.cp_base.specs.declared.region.SpaceId.TheVariants as space
-use Rattle.script_cmds.specs.declared.fault.TextCause.TheVariants as cause
+use Rattle.script_line.specs.declared.fault.TextCause.TheVariants as cause
 use Rattle.script_cmds.specs.declared.item.Item.{Item}
 use Rattle.script_cmds.specs.declared.item.Item.TheVariants as item
 use Rattle.script_cmds.specs.declared.item.HostPart.{HostPart}
 use Rattle.script_cmds.specs.declared.item.Phase.{Phase}
 use Rattle.script_cmds.specs.declared.item.Show.{Show}
-use Rattle.script_cmds.specs.declared.kind.LineKind.{LineKind}
-use Rattle.script_cmds.specs.declared.kind.LineKind.TheVariants as line
+use Rattle.script_line.specs.declared.kind.LineKind.{LineKind}
+use Rattle.script_line.specs.declared.kind.LineKind.TheVariants as line
+use Rattle.script_line.specs.declared.kind.SpaceKind.TheVariants as space_kind
+use Rattle.cp_base.specs.declared.limits.TheConstants.{MAX_TRANSFER}
 use Rattle.script_cmds.specs.declared.progress.Progress.{Progress}
 use Rattle.script_cmds.specs.declared.script.Script.{Script}
-use Rattle.script_cmds.specs.Fault.{◌>>=◌, after_lines}
+use Rattle.script_line.specs.Reading.{◌>>=◌}
+use Rattle.script_cmds.specs.Fault.{after_lines}
 use Rattle.script_cmds.specs.Kept.{KeepsOrderAndLimits}
-use Rattle.script_cmds.specs.Line.{Line, counts}
-use Rattle.script_cmds.specs.Progress.{advanced, is_in_order, is_within_limits, is_within, show_fits, start}
+use Rattle.script_line.specs.Line.{Line, counts}
+use Rattle.script_cmds.specs.Progress.{advanced, is_in_order, is_within_limits, start}
 use Rattle.script_cmds.specs.Text.{configuration_lines, item_line, item_lines, numbers_line, part_lines, phase_lines, region_line, show_line, show_lines, size_lines}
 use Rattle.history_model.proofs.Every.{every-All}
 use Rattle.nvmecp.specs.Shown.{AreInside}
 
 -- a line that keeps its limits, and what comes after it
 record Goes (p : Progress) (l : Line) (lines : List Line) : Type 0 where
-  fits : is_within_limits p l.kind l.values ≡ true
+  fits : is_within_limits p l ≡ true
   rest : is_ok (after_lines (advanced p l.kind l.values) lines) ≡ true
 
-goes_by : (p : Progress) (l : Line) (lines : List Line) (order limits : Bool) → is_within_limits p l.kind l.values ≡ limits
+goes_by : (p : Progress) (l : Line) (lines : List Line) (order limits : Bool) → is_within_limits p l ≡ limits
     → is_ok ((if order then if limits then Ok (advanced p l.kind l.values) else Err cause.Limit else Err cause.Order) >>= λ q. after_lines q lines) ≡ true
     → Goes p l lines
 goes_by p l lines true true e h = record { fits = e; rest = h }
@@ -40,7 +43,7 @@ goes_by p l lines true false e h = absurd (false≢true h)
 goes_by p l lines false limits e h = absurd (false≢true h)
 
 goes : (p : Progress) (l : Line) (lines : List Line) → is_ok (after_lines p (l ∷ lines)) ≡ true → Goes p l lines
-goes p l lines h = goes_by p l lines (is_in_order p.stage l.kind l.values) (is_within_limits p l.kind l.values) refl h
+goes p l lines h = goes_by p l lines (is_in_order p.stage l.kind l.values) (is_within_limits p l) refl h
 
 -- some progress with this configuration, behind which these lines go on
 record Then (c : Configuration) (rest : List Line) : Type 0 where
@@ -108,7 +111,7 @@ record Kind : Type 0 where
 
 nvm : Kind
 nvm = record {
-  line = line.Nvm;
+  line = line.Namespace space_kind.Nvm;
   get = λ (c : Configuration). c.nvm;
   put = λ (c : Configuration) (sizes : List ℕ). record c { nvm = sizes };
   advances = λ p k size. refl;
@@ -119,7 +122,7 @@ nvm = record {
 
 mem : Kind
 mem = record {
-  line = line.Mem;
+  line = line.Namespace space_kind.Mem;
   get = λ (c : Configuration). c.mem;
   put = λ (c : Configuration) (sizes : List ℕ). record c { mem = sizes };
   advances = λ p k size. refl;
@@ -180,10 +183,10 @@ unfolding nvm mem all_sizes
 after_configuration c rest n m h =
     let header : Line = numbers_line line.Header (c.block ∷ c.depth ∷ c.budget ∷ []) in
     let c0 : Configuration = bare c.block c.depth c.budget in
-    let first = (goes start header ((size_lines line.Nvm 1 c.nvm ++ size_lines line.Mem 1 c.mem) ++ rest) h).rest in
+    let first = (goes start header ((size_lines (line.Namespace space_kind.Nvm) 1 c.nvm ++ size_lines (line.Namespace space_kind.Mem) 1 c.mem) ++ rest) h).rest in
     let p : Progress = advanced start line.Header header.values in
-    let joined = append_assoc (size_lines line.Nvm 1 c.nvm) (size_lines line.Mem 1 c.mem) rest in
-    let some = all_sizes nvm (size_lines line.Mem 1 c.mem ++ rest) c.nvm p [] (ap zeros (sym n))
+    let joined = append_assoc (size_lines (line.Namespace space_kind.Nvm) 1 c.nvm) (size_lines (line.Namespace space_kind.Mem) 1 c.mem) rest in
+    let some = all_sizes nvm (size_lines (line.Namespace space_kind.Mem) 1 c.mem ++ rest) c.nvm p [] (ap zeros (sym n))
     (subst (λ (ls : List Line). is_ok (after_lines p ls) ≡ true) joined first) in
     let mems : some.progress.config.mem ≡ replicate (length c.mem) 0 = ap (λ (x : Configuration). x.mem) some.config ∙ ap zeros (sym m) in
     let both = all_sizes mem rest c.mem some.progress [] mems some.ok in
@@ -200,18 +203,23 @@ le_so a b e = grind (arith, nat_tests, e)
 
 -- whether a show lies inside, by its space
 abbrev IsInside : Configuration → SpaceId → ℕ → ℕ → Type 0
-IsInside c space at len = (len ≤ 8192) × (at + len ≤ unwrap_or (size_of c space) 0)
+IsInside c space at len = (len ≤ MAX_TRANSFER) × (at + len ≤ unwrap_or (size_of c space) 0)
 
-show_inside : (c : Configuration) (s : SpaceId) (number at len : ℕ) → show_fits c s number at len ≡ true → IsInside c s at len
-show_inside c s number at len e =
-    let a = and_parts (is_within 1 8 number) (is_within 1 8192 len && nat_le (at + len) (unwrap_or (size_of c s) 0)) e in
-    let b = and_parts (is_within 1 8192 len) (nat_le (at + len) (unwrap_or (size_of c s) 0)) a.1 in
-    let l = and_parts (nat_le 1 len) (nat_le len 8192) b.0 in
-    (le_so len 8192 l.1, le_so (at + len) (unwrap_or (size_of c s) 0) b.1)
+-- what the test of a show line says
+shown_inside : (number at len count most size : ℕ) (first second : Bool) → ((first && (second && ((nat_le 1 len && nat_le len MAX_TRANSFER) && true))) && (nat_lt count most && nat_le (at + len) size)) ≡ true
+    → (len ≤ MAX_TRANSFER) × (at + len ≤ size)
+shown_inside number at len count most size first second e =
+    let all = and_parts (first && (second && ((nat_le 1 len && nat_le len MAX_TRANSFER) && true))) (nat_lt count most && nat_le (at + len) size) e in
+    let a = and_parts first (second && ((nat_le 1 len && nat_le len MAX_TRANSFER) && true)) all.0 in
+    let b = and_parts second ((nat_le 1 len && nat_le len MAX_TRANSFER) && true) a.1 in
+    let d = and_parts (nat_le 1 len && nat_le len MAX_TRANSFER) true b.1 in
+    let l = and_parts (nat_le 1 len) (nat_le len MAX_TRANSFER) d.0 in
+    let room = and_parts (nat_lt count most) (nat_le (at + len) size) all.1 in
+    (le_so len MAX_TRANSFER l.1, le_so (at + len) size room.1)
 
-region_inside : (p : Progress) (s : SpaceId) (at len : ℕ) → is_within_limits p (region_line s at len).kind (region_line s at len).values ≡ true → IsInside p.config s at len
-region_inside p (space.Nvm n) at len e = show_inside p.config (space.Nvm n) n at len (and_parts _ _ e).1
-region_inside p (space.Mem n) at len e = show_inside p.config (space.Mem n) n at len (and_parts _ _ e).1
+region_inside : (p : Progress) (s : SpaceId) (at len : ℕ) → is_within_limits p (region_line s at len) ≡ true → IsInside p.config s at len
+region_inside p (space.Nvm n) at len e = shown_inside n at len p.shows p.limits.shows (unwrap_or (size_of p.config (space.Nvm n)) 0) _ _ e
+region_inside p (space.Mem n) at len e = shown_inside n at len p.shows p.limits.shows (unwrap_or (size_of p.config (space.Mem n)) 0) _ _ e
 
 region_keeps : (p : Progress) (s : SpaceId) (at len : ℕ) → (advanced p (region_line s at len).kind (region_line s at len).values).config ≡ p.config
 region_keeps p (space.Nvm n) at len = refl
@@ -236,5 +244,5 @@ inside script n m kept =
     let config = after_configuration c (phase_lines script.phases ++ show_lines script.shows) n m
     (subst (λ (ls : List Line). is_ok (after_lines start ls) ≡ true) joined kept) in
     let phases = after_phases config.progress script.phases (show_lines script.shows) config.ok in
-    every-All (λ (show : Show). (show.range.len ≤ 8192) × (show.range.start + show.range.len ≤ unwrap_or (size_of c show.range.space) 0)) script.shows
+    every-All (λ (show : Show). (show.range.len ≤ MAX_TRANSFER) × (show.range.start + show.range.len ≤ unwrap_or (size_of c show.range.space) 0)) script.shows
     (after_shows phases.progress c script.shows (phases.config ∙ config.config) phases.ok)

@@ -2,19 +2,19 @@
 use Rattle.std.proofs.Common.{◌≡◌, ℕ, suc, ◌+◌, ◌<◌, ◌≤◌, arith, List, [], ◌∷◌, ◌++◌, length, get_or, take, drop, IsTrue, sym, refl, ap, subst, ◌∙◌, add-one, drop-cons}
 use Rattle.std.proofs.lemmas.List.{take_more, map-append}
 use Rattle.std.proofs.lemmas.List.Elements.{All-append, All-cons}
+use Rattle.cp_base.specs.declared.limits.TheConstants.{MAX_TRANSFER}
 use Rattle.cp_base.specs.declared.replies.Reply.{Reply}
-use Rattle.cp_base.specs.Built.{is_built}
+use Rattle.built_commands.specs.Built.{is_built}
 use Rattle.cp_base.specs.Answer.{Answer}
 use Rattle.cp_base.specs.Configuration.{Configuration}
 use Rattle.device_model.specs.State.{State}
-use Rattle.device_model.specs.Step.{DeviceStep}
-use Rattle.nvmecp.specs.Place.{Place, AreBuilt, CarriesOut}
+use Rattle.nvmecp.specs.Place.{Place, AreBuilt, CarriesOut, IsCarried}
 use Rattle.nvmecp.specs.Shown.{AreShort, places_of}
 use Rattle.nvmecp.specs.declared.in_order.Placed.{Placed}
 
 -- one more command after those that were carried out
-pub CarriesOut-more : (c : Configuration) (s : State) (places : List Place) (answers : List Answer) (mid : State) (p : Place) (answer : Answer) (next : State) → CarriesOut c s places answers mid → DeviceStep c mid p.command answer next → CarriesOut c s (places ++ p ∷ []) (answers ++ answer ∷ []) next
-CarriesOut-more c s [] [] mid p answer next e step = (next, subst (λ (x : State). DeviceStep c x p.command answer next) e step, refl)
+pub CarriesOut-more : (c : Configuration) (s : State) (places : List Place) (answers : List Answer) (mid : State) (p : Place) (answer : Answer) (next : State) → CarriesOut c s places answers mid → IsCarried c mid p.command answer next → CarriesOut c s (places ++ p ∷ []) (answers ++ answer ∷ []) next
+CarriesOut-more c s [] [] mid p answer next e step = (next, subst (λ (x : State). IsCarried c x p.command answer next) e step, refl)
 CarriesOut-more c s (q ∷ places) (a ∷ answers) mid p answer next h step = (h.0, h.1, CarriesOut-more c h.0 places answers mid p answer next h.2 step)
 CarriesOut-more c s [] (a ∷ answers) mid p answer next h step = absurd h
 CarriesOut-more c s (q ∷ places) [] mid p answer next h step = absurd h
@@ -39,7 +39,7 @@ answered c s [] (a ∷ answers) last h = absurd h
 answered c s (p ∷ places) [] last h = absurd h
 
 -- one more short reply
-pub short_more : (replies : List Reply) (reply : Reply) → AreShort replies → length reply.bytes.items ≤ 8192 → AreShort (replies ++ reply ∷ [])
+pub short_more : (replies : List Reply) (reply : Reply) → AreShort replies → length reply.bytes.items ≤ MAX_TRANSFER → AreShort (replies ++ reply ∷ [])
 short_more replies reply before short =
-    let P : Reply → Type 0 = λ r. length r.bytes.items ≤ 8192 in
+    let P : Reply → Type 0 = λ r. length r.bytes.items ≤ MAX_TRANSFER in
     All-append P replies (reply ∷ []) before (All-cons P reply [] short (λ k d below. absurd (omega (arith, below))))

@@ -1,10 +1,13 @@
+pub mod Asm
 pub mod Code
+pub mod Dis
+pub mod Ends
 pub mod Finished
-pub mod Input
 pub mod Lines
 pub mod Place
 pub mod Refusal
 pub mod Run
-pub mod Script
 pub mod Shown
+pub mod Step
+pub mod Task
 pub mod Words

@@ -2,7 +2,7 @@
 use Rattle.std.specs.Prelude.{ℕ, ◌+◌, List, [], ◌∷◌, map}
 use Rattle.cp_base.specs.Answer.{Answer}
 use Rattle.cp_base.specs.Contents.{Contents, bytes_in}
-use Rattle.script_cmds.specs.Line.{word_of}
+use Rattle.cp_base.specs.Words.{word_of}
 use Rattle.script_cmds.specs.declared.item.Show.{Show}
 use Rattle.history_model.specs.Text.{line_of_entry, shown_text}
 use Rattle.nvmecp.specs.Place.{Place}

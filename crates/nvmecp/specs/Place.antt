@@ -1,9 +1,10 @@
 -- Commands by their names, and what a device answers to them one by one. This project's own.
-use Rattle.std.specs.Prelude.{◌≡◌, ℕ, ◌+◌, ◌==◌, IsTrue, List, [], ◌∷◌, ◌++◌, count_by}
+use Rattle.std.specs.Prelude.{◌≡◌, ◌≢◌, ℕ, ◌+◌, ◌==◌, IsTrue, List, [], ◌∷◌, ◌++◌, count_by}
 use Rattle.cp_base.specs.Answer.{Answer}
-use Rattle.cp_base.specs.Built.{is_built}
+use Rattle.built_commands.specs.Built.{is_built}
 use Rattle.cp_base.specs.Configuration.{Configuration}
 use Rattle.cp_base.specs.declared.commands.Command.{Command}
+use Rattle.cp_base.specs.declared.replies.Status.TheVariants as status
 use Rattle.script_cmds.specs.declared.item.Item.{Item}
 use Rattle.script_cmds.specs.declared.item.Item.TheVariants as item
 use Rattle.script_cmds.specs.declared.item.HostPart.{HostPart}
@@ -53,9 +54,16 @@ abbrev pub AreBuilt : List Place → Type 0
 AreBuilt [] = Unit {0}
 AreBuilt (p ∷ places) = IsTrue (is_built p.command) × AreBuilt places
 
+-- a device carries out a command with an answer, and goes on to the next state: the command is one of those
+-- that this version carries out, and is not withdrawn
+pub record IsCarried (c : Configuration) (s : State) (cmd : Command) (answer : Answer) (next : State) : Type 0 where
+  pub built : IsTrue (is_built cmd)
+  pub step : DeviceStep c s cmd answer next
+  pub done : answer.status ≢ status.Aborted
+
 -- the device carries out these commands one after the other with these answers, from one state to another
 abbrev pub CarriesOut : Configuration → State → List Place → List Answer → State → Type 0
 CarriesOut c s [] [] last = last ≡ s
-CarriesOut c s (p ∷ places) (answer ∷ answers) last = (next : State) × DeviceStep c s p.command answer next × CarriesOut c next places answers last
+CarriesOut c s (p ∷ places) (answer ∷ answers) last = (next : State) × IsCarried c s p.command answer next × CarriesOut c next places answers last
 CarriesOut c s [] (answer ∷ answers) last = ⊥
 CarriesOut c s (p ∷ places) [] last = ⊥

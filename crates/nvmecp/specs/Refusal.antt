@@ -1,8 +1,8 @@
 -- What is told of an input that is refused. This project's own.
 use Rattle.std.specs.Prelude.{ℕ, List, [], ◌∷◌, ◌++◌, codes, decimal}
 use Rattle.script_cmds.specs.declared.fault.ScriptFault.{ScriptFault}
-use Rattle.script_cmds.specs.declared.fault.TextCause.{TextCause}
-use Rattle.script_cmds.specs.declared.fault.TextCause.TheVariants as cause
+use Rattle.script_line.specs.declared.fault.TextCause.{TextCause}
+use Rattle.script_line.specs.declared.fault.TextCause.TheVariants as cause
 use Rattle.history_model.specs.Plan.{Breach, PlanFault, QueueFull, CidBusy, NotOutstanding, NoHosts}
 
 -- the line that tells that too many bytes came

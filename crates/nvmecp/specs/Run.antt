@@ -1,52 +1,59 @@
--- What a run of the program has read and written, by its status. This project's own.
-use Rattle.std.specs.Prelude.{ℕ, ◌≤◌, ◌⊎◌, List, Option, length}
-use Rattle.std.specs.Io.KnownBytes.{Appends, IsAtEnd}
+-- What a run of the program has read and written, by its status. What a source has left and has given and
+-- what a sink holds are passed as functions of them. This project's own.
+use Rattle.std.specs.Prelude.{◌≡◌, ℕ, ◌≤◌, ◌⊎◌, List, Option, Some, None, IfSome, length}
+use Rattle.std.specs.Io.KnownBytes.{IsAtEnd}
 use Rattle.cp_io.specs.Counting.{Rose}
-use Rattle.cp_io.specs.Sink.{AppendsFront}
 use Rattle.cp_io.specs.Source.{Gave}
-use Rattle.nvmecp.specs.Input.{IsAnswer, IsRefusal, max_input}
+use Rattle.nvmecp.specs.Ends.{Writes, WritesFront}
+use Rattle.nvmecp.specs.Task.{Task, IsDue, IsRefusal}
+use Rattle.nvmecp.specs.Words.{asked_of, task_of}
 use Rattle.nvmecp.specs.declared.words.Asked.{Asked}
-
--- A text of this kind was written after what the sink held.
-pub record Writes (IsDue : List ℕ → Type 0) (held held' : Option (List ℕ)) : Type 0 where
-  pub text : List ℕ
-  pub due : IsDue text
-  pub written : Appends held held' text
-
--- A front of a text of this kind, and not all of it, was written after what the sink held.
-pub record WritesFront (IsDue : List ℕ → Type 0) (held held' : Option (List ℕ)) : Type 0 where
-  pub text : List ℕ
-  pub due : IsDue text
-  pub front : AppendsFront held held' text
-
--- a text that is due for an input
-abbrev pub IsDue : Asked → List ℕ → List ℕ → Type 0
-IsDue asked input text = IsAnswer asked input text ⊎ IsRefusal asked input text
 
 -- Status 0: all that the source had left was read, it is not too long, and the text that was asked for is
 -- written.
-pub record Done (asked : Asked) (left left' : Option (List ℕ)) (given given' : ℕ) (held held' : Option (List ℕ)) : Type 0 where
+pub record Done {S K : Type 0} (task : Task) (left : S → Option (List ℕ)) (given : S → ℕ) (held : K → Option (List ℕ)) (source source' : S) (sink sink' : K) : Type 0 where
   pub input : List ℕ
-  pub gave : Gave left left' given given' input
-  pub within : length input ≤ max_input
-  pub at_end : IsAtEnd left'
-  pub writes : Writes (IsAnswer asked input) held held'
+  pub gave : Gave (left source) (left source') (given source) (given source') input
+  pub within : length input ≤ task.limit
+  pub at_end : IsAtEnd (left source')
+  pub writes : Writes (task.Answers input) (held sink) (held sink')
 
 -- Status 2: too many bytes came, or all that the source had left was read and is refused; the line that
 -- tells it is written.
-pub record IsRefused (asked : Asked) (left left' : Option (List ℕ)) (given given' : ℕ) (held held' : Option (List ℕ)) : Type 0 where
+pub record IsRefused {S K : Type 0} (task : Task) (left : S → Option (List ℕ)) (given : S → ℕ) (held : K → Option (List ℕ)) (source source' : S) (sink sink' : K) : Type 0 where
   pub input : List ℕ
-  pub gave : Gave left left' given given' input
-  pub at_end : length input ≤ max_input → IsAtEnd left'
-  pub writes : Writes (IsRefusal asked input) held held'
+  pub gave : Gave (left source) (left source') (given source) (given source') input
+  pub at_end : length input ≤ task.limit → IsAtEnd (left source')
+  pub writes : Writes (IsRefusal task input) (held sink) (held sink')
 
--- Status 4: a front of the text that is due for what came is written.
-pub record IsCutShort (asked : Asked) (left left' : Option (List ℕ)) (given given' : ℕ) (held held' : Option (List ℕ)) : Type 0 where
+-- Status 4: too many bytes came, or all that the source had left was read; a front of the text that is due
+-- for it is written.
+pub record IsCutShort {S K : Type 0} (task : Task) (left : S → Option (List ℕ)) (given : S → ℕ) (held : K → Option (List ℕ)) (source source' : S) (sink sink' : K) : Type 0 where
   pub input : List ℕ
-  pub gave : Gave left left' given given' input
-  pub writes : WritesFront (IsDue asked input) held held'
+  pub gave : Gave (left source) (left source') (given source) (given source') input
+  pub at_end : length input ≤ task.limit → IsAtEnd (left source')
+  pub writes : WritesFront (IsDue task input) (held sink) (held sink')
 
 -- Nothing failed: neither count of faults rose.
-pub record NoFault (source_faults source_faults' sink_faults sink_faults' : ℕ) : Type 0 where
-  pub source : Rose source_faults source_faults' → ⊥
-  pub sink : Rose sink_faults sink_faults' → ⊥
+pub record NoFault {S K : Type 0} (source_faults : S → ℕ) (sink_faults : K → ℕ) (source source' : S) (sink sink' : K) : Type 0 where
+  pub read : Rose (source_faults source) (source_faults source') → ⊥
+  pub written : Rose (sink_faults sink) (sink_faults sink') → ⊥
+
+-- What a run on words has done by its status, in which memory for the words may have been wanting too: its
+-- fields are the clauses of the run.
+pub record Ran {S K : Type 0} (words : List (List ℕ)) (left : S → Option (List ℕ)) (given : S → ℕ) (source_faults : S → ℕ) (held : K → Option (List ℕ)) (sink_faults : K → ℕ)
+    (source source' : S) (sink sink' : K) (status : ℕ) : Type 0 where
+  pub usage : status ≡ 1 → asked_of words ≡ None
+  pub wrong : asked_of words ≡ None → (status ≡ 1) ⊎ (status ≡ 5)
+  pub untouched : status ≡ 1 → (source' ≡ source) × (sink' ≡ sink)
+  pub done : status ≡ 0 → IfSome (asked_of words) (λ asked. Done (task_of asked) left given held source source' sink sink')
+  pub refused : status ≡ 2 → IfSome (asked_of words) (λ asked. IsRefused (task_of asked) left given held source source' sink sink')
+  pub read_fault : status ≡ 3 → Rose (source_faults source) (source_faults source')
+  pub write_fault : status ≡ 4 → Rose (sink_faults sink) (sink_faults sink')
+  pub cut_short : status ≡ 4 → IfSome (asked_of words) (λ asked. IsCutShort (task_of asked) left given held source source' sink sink')
+  pub unwritten : (status ≡ 3) ⊎ (status ≡ 5) → sink' ≡ sink
+  pub statuses : status ≤ 5
+  pub accepted : (asked : Asked) (input : List ℕ) → asked_of words ≡ Some asked → left source ≡ Some input → length input ≤ (task_of asked).limit
+      → (task_of asked).Accepts input → NoFault source_faults sink_faults source source' sink sink' → (status ≡ 0) ⊎ (status ≡ 5)
+  pub rejected : (asked : Asked) (input : List ℕ) → asked_of words ≡ Some asked → left source ≡ Some input → length input ≤ (task_of asked).limit
+      → (task_of asked).Rejects input → NoFault source_faults sink_faults source source' sink sink' → (status ≡ 2) ⊎ (status ≡ 5)

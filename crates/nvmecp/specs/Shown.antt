@@ -4,6 +4,7 @@ use Rattle.std.specs.BTreeMap.{BTreeMap, get}
 use Rattle.std.specs.Ordering.{nat_cmp}
 use Rattle.cp_base.specs.Buffer.{Buffer}
 use Rattle.cp_base.specs.Configuration.{Configuration, size_of}
+use Rattle.cp_base.specs.declared.limits.TheConstants.{MAX_TRANSFER}
 use Rattle.cp_base.specs.declared.replies.Reply.{Reply}
 use Rattle.script_cmds.specs.declared.item.Show.{Show}
 use Rattle.nvmecp.specs.Place.{Place, count_of}
@@ -23,11 +24,11 @@ KnowsCounts counts places = (host : ℕ) → unwrap_or (get nat_cmp counts host)
 
 -- no reply has more bytes than a host moves by one command
 abbrev pub AreShort : List Reply → Type 0
-AreShort replies = All (λ (reply : Reply). length reply.bytes.items ≤ 8192) replies
+AreShort replies = All (λ (reply : Reply). length reply.bytes.items ≤ MAX_TRANSFER) replies
 
 -- each show is of at most 8,192 bytes inside a namespace
 abbrev pub AreInside : Configuration → List Show → Type 0
-AreInside c shows = All (λ (show : Show). (show.range.len ≤ 8192) × (show.range.start + show.range.len ≤ unwrap_or (size_of c show.range.space) 0)) shows
+AreInside c shows = All (λ (show : Show). (show.range.len ≤ MAX_TRANSFER) × (show.range.start + show.range.len ≤ unwrap_or (size_of c show.range.space) 0)) shows
 
 -- there is room for this many bytes once the buffer is cleared
 abbrev pub HasRoom : ℕ → Buffer → Type 0

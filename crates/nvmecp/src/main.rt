@@ -1,46 +1,80 @@
 //! The program: one device that hosts share, run from a script of what the hosts do.
 #![tactic(auto)]
 
-mod assembling;
+ghost use Rattle.std.specs.Prelude.{◌≡◌, ◌≢◌, IfOk, drop, map};
+ghost use Rattle.std.specs.IoError.{error_kind};
+ghost use Rattle.std.specs.Process.{exit_status};
+ghost use Rattle.std.specs.String.{string_bytes};
+ghost use Rattle.std.specs.Vec.Iter.{into_iter_items};
+ghost use Rattle.nvmecp.specs.Run.{Ran};
+
+mod asm;
+mod dis;
+mod ending;
 mod in_order;
 mod printing;
 mod refusing;
 mod run;
-mod status;
-mod stepping;
+mod step;
 #[cfg(test)]
 mod tests;
 mod words;
 
-use cp_io::{StdSink, StdSource};
+use cp_base::NoMemory;
+use cp_io::{Sink, Source, StdSink, StdSource};
+use ending::{NO_MEMORY, USAGE};
 use run::run;
-use status::{NO_MEMORY, USAGE};
+use std::alloc::Global;
+use std::io::ErrorKind;
 use std::process::ExitCode;
 use std::{env, io};
 
-// The words after the program's name, or the status where there are none to go by: an argument that is
-// no text makes the words wrong.
-fn given_words(rt: &HostRuntime) -> Result<Vec<String>, u8> {
-    let args = match env::args(rt) {
-        Ok(args) => args,
-        Err(error) if error.kind() == io::ErrorKind::OutOfMemory => return Err(NO_MEMORY),
-        Err(_) => return Err(USAGE),
-    };
-    let mut words = Vec::new(rt.alloc());
-    for word in args.skip(1) {
-        if words.push(word).is_err() {
-            return Err(NO_MEMORY);
-        }
+// The words after the program's name: all of them, in order.
+fn words_behind_the_name(alloc: Global, args: env::Args) -> Result<Vec<String>, NoMemory>
+    ensures { IfOk result (λ words. map string_bytes words.items ≡ drop 1 (map string_bytes (into_iter_items args))) }
+{
+    let mut args = args;
+    args.next();
+    let mut words = Vec::new(alloc);
+    while let Some(word) = args.next() {
+        words.push(word)?;
     }
     Ok(words)
 }
 
+// The status where the arguments cannot be read: an argument that is no text makes the words wrong.
+fn status_without_words(error: &io::Error) -> u8
+    ensures memory { error_kind error.now ≡ ErrorKind.OutOfMemory → result ≡ 5 }
+    ensures usage { error_kind error.now ≢ ErrorKind.OutOfMemory → result ≡ 1 }
+{
+    if error.kind() == ErrorKind::OutOfMemory {
+        NO_MEMORY
+    } else {
+        USAGE
+    }
+}
+
+// Runs the program on these arguments, and leaves with the status of the run.
+fn run_on<S: Source, K: Sink>(
+    alloc: Global,
+    args: env::Args,
+    source: &mut S,
+    sink: &mut K,
+) -> ExitCode
+    ensures { Ran (drop 1 (map string_bytes (into_iter_items args))) S.left S.given S.faults K.held K.faults
+        source.old source.new sink.old sink.new (exit_status result) }
+{
+    match words_behind_the_name(alloc, args) {
+        Ok(words) => ExitCode::from(run(alloc, words.as_slice(), source, sink)),
+        Err(NoMemory) => ExitCode::from(NO_MEMORY),
+    }
+}
+
 fn main(rt: HostRuntime) -> ExitCode {
-    let words = match given_words(&rt) {
-        Ok(words) => words,
-        Err(status) => return ExitCode::from(status),
-    };
     let mut source = StdSource::new(rt.reader());
     let mut sink = StdSink::new(io::writer(&rt));
-    ExitCode::from(run(rt.alloc(), words.as_slice(), &mut source, &mut sink))
+    match env::args(&rt) {
+        Ok(args) => run_on(rt.alloc(), args, &mut source, &mut sink),
+        Err(error) => ExitCode::from(status_without_words(&error)),
+    }
 }

@@ -9,16 +9,17 @@ ghost use Rattle.cp_base.specs.Contents.{bytes_in};
 ghost use Rattle.cp_io.specs.Counting.{Rose};
 ghost use Rattle.cp_io.specs.Sink.{AppendsFront};
 ghost use Rattle.history_model.specs.Text.{shown_text};
-ghost use Rattle.script_cmds.specs.Line.{word_of};
+ghost use Rattle.nvmecp.specs.Ends.{EndsAnswered};
 ghost use Rattle.nvmecp.specs.Finished.{IsPrintable, finished_text};
 ghost use Rattle.nvmecp.specs.Lines.{place_line, place_lines, shown_lines};
 ghost use Rattle.nvmecp.specs.Shown.{AreInside, AreShort, HasRoom, place_of_placed, places_of};
 
+use crate::ending::Ending;
 use crate::in_order::{Finished, Placed};
-use cp_base::{Bytes, Command, Reply};
+use cp_base::{Bytes, MAX_TRANSFER, Reply};
 use cp_io::{Sink, WriteFault, write_all};
 use replay_print::{EntryLine, LONGEST_LINE, push_entry, push_show};
-use script_cmds::{CommandWord, Show};
+use script_cmds::Show;
 use seq_device::SeqDevice;
 
 // Writes the line of a command and its reply.
@@ -30,7 +31,7 @@ fn print_entry<K: Sink>(
     reply: &Reply,
 ) -> Result<(), WriteFault>
     requires room { HasRoom LONGEST_LINE line.old }
-    requires short { length reply.now.bytes.items ≤ 8192 }
+    requires short { length reply.now.bytes.items ≤ MAX_TRANSFER }
     ensures room { HasRoom LONGEST_LINE line.new }
     ensures all { OnOk result (Appends (K.held sink.old) (K.held sink.new) (place_line k (place_of_placed placed.now) (answer_of reply.now))) }
     ensures front { OnErr result (AppendsFront (K.held sink.old) (K.held sink.new) (place_line k (place_of_placed placed.now) (answer_of reply.now))) }
@@ -42,7 +43,7 @@ fn print_entry<K: Sink>(
         host: placed.host,
         ordinal: placed.ordinal,
         cid: placed.cid,
-        word: word_of(&placed.command),
+        word: placed.command.word(),
         status: reply.status,
         result: reply.result,
         bytes: reply.bytes.as_slice(),
@@ -90,7 +91,7 @@ fn print_show<K: Sink>(
     show: &Show,
 ) -> Result<(), WriteFault>
     requires room { HasRoom LONGEST_LINE line.old }
-    requires short { show.now.range.len ≤ 8192 }
+    requires short { show.now.range.len ≤ MAX_TRANSFER }
     requires inside { show.now.range.start + show.now.range.len ≤ unwrap_or (size_of device.now.config show.now.range.space) 0 }
     ensures room { HasRoom LONGEST_LINE line.new }
     ensures all { OnOk result (Appends (K.held sink.old) (K.held sink.new) (shown_text show.now (bytes_in device.now.state.contents show.now.range))) }
@@ -154,8 +155,8 @@ fn first_line(text: &[u8]) -> usize
     }
 }
 
-/// Writes a text, each of its lines as one piece.
-pub fn print_lines<K: Sink>(sink: &mut K, text: &[u8]) -> Result<(), WriteFault>
+// Writes a text, each of its lines as one piece.
+fn print_lines<K: Sink>(sink: &mut K, text: &[u8]) -> Result<(), WriteFault>
     ensures all { OnOk result (Appends (K.held sink.old) (K.held sink.new) text.now) }
     ensures front { OnErr result (AppendsFront (K.held sink.old) (K.held sink.new) text.now) }
     ensures fault { OnErr result (Rose (K.faults sink.old) (K.faults sink.new)) }
@@ -170,25 +171,13 @@ pub fn print_lines<K: Sink>(sink: &mut K, text: &[u8]) -> Result<(), WriteFault>
     Ok(())
 }
 
-// The word of a command, as it stands in a script and in a history.
-fn word_of(command: &Command) -> CommandWord
-    ensures { result ≡ word_of command.now }
+/// Writes a text that answers an input, each of its lines as one piece.
+pub fn answer_lines<K: Sink>(sink: &mut K, text: &[u8]) -> Ending
+    ensures ends { EndsAnswered (λ answer. answer ≡ text.now) K.held K.faults sink.old sink.new result }
+    ensures done { (result ≡ Ending.Done) ⊎ (result ≡ Ending.WriteFault) }
 {
-    match command {
-        Command::NvmRead { .. } => CommandWord::NvmRead,
-        Command::NvmWrite { .. } => CommandWord::NvmWrite,
-        Command::NvmZeroes { .. } => CommandWord::NvmZeroes,
-        Command::NvmCopy { .. } => CommandWord::NvmCopy,
-        Command::MemRead { .. } => CommandWord::MemRead,
-        Command::MemWrite { .. } => CommandWord::MemWrite,
-        Command::MemFill { .. } => CommandWord::MemFill,
-        Command::MemCopy { .. } => CommandWord::MemCopy,
-        Command::SetCreate { .. } => CommandWord::SetCreate,
-        Command::SetDelete { .. } => CommandWord::SetDelete,
-        Command::Load { .. } => CommandWord::Load,
-        Command::Unload { .. } => CommandWord::Unload,
-        Command::Activate { .. } => CommandWord::Activate,
-        Command::Deactivate { .. } => CommandWord::Deactivate,
-        Command::Execute { .. } => CommandWord::Execute,
+    match print_lines(sink, text) {
+        Ok(()) => Ending::Done,
+        Err(_) => Ending::WriteFault,
     }
 }

@@ -1,16 +1,14 @@
 // What is told of an input that is refused.
-ghost use Rattle.std.specs.Prelude.{◌≡◌, ◌⊎◌, IfOk};
-ghost use Rattle.std.specs.Io.KnownBytes.{Appends};
-ghost use Rattle.cp_io.specs.Counting.{Rose};
-ghost use Rattle.cp_io.specs.Sink.{AppendsFront};
+ghost use Rattle.std.specs.Prelude.{◌≡◌, ◌≢◌, IfOk};
 ghost use Rattle.script_plan.specs.Cause.{breach_of};
+ghost use Rattle.nvmecp.specs.Ends.{EndsRefused};
 ghost use Rattle.nvmecp.specs.Refusal.{breach_text, cause_text, place_line, refusal_line};
 
-use crate::status::{NO_MEMORY, REFUSED, WRITE_FAULT};
+use crate::ending::Ending;
 use cp_base::{Bytes, NoMemory};
 use cp_io::{Sink, write_all};
 use cp_text::{push_number, push_piece};
-use script_cmds::TextCause;
+use script_line::TextCause;
 use script_plan::PlanCause;
 use std::alloc::Global;
 
@@ -64,43 +62,33 @@ fn place_text(alloc: Global, place: u32) -> Result<Bytes, NoMemory>
     Ok(text)
 }
 
-/// Writes the line that tells a refusal. Gives the status.
-pub fn refuse<K: Sink>(sink: &mut K, line: &[u8]) -> u8
-    ensures status { (result ≡ 2) ⊎ (result ≡ 4) }
-    ensures refused { result ≡ 2 → Appends (K.held sink.old) (K.held sink.new) line.now }
-    ensures front { result ≡ 4 → AppendsFront (K.held sink.old) (K.held sink.new) line.now }
-    ensures fault { result ≡ 4 → Rose (K.faults sink.old) (K.faults sink.new) }
+/// Writes a line that tells a refusal.
+pub fn refuse<K: Sink>(sink: &mut K, line: &[u8]) -> Ending
+    ensures ends { EndsRefused line.now K.held K.faults sink.old sink.new result }
+    ensures memory { result ≢ Ending.NoMemory }
 {
     match write_all(sink, line) {
-        Ok(()) => REFUSED,
-        Err(_) => WRITE_FAULT,
+        Ok(()) => Ending::Refused,
+        Err(_) => Ending::WriteFault,
     }
 }
 
-/// Tells a line of the input and what is wrong with it. Gives the status.
-pub fn refuse_line<K: Sink>(alloc: Global, sink: &mut K, line: u32, name: &str) -> u8
-    ensures status { (result ≡ 2) ⊎ (result ≡ 4) ⊎ (result ≡ 5) }
-    ensures refused { result ≡ 2 → Appends (K.held sink.old) (K.held sink.new) (refusal_line line name.now) }
-    ensures front { result ≡ 4 → AppendsFront (K.held sink.old) (K.held sink.new) (refusal_line line name.now) }
-    ensures fault { result ≡ 4 → Rose (K.faults sink.old) (K.faults sink.new) }
-    ensures no_memory { result ≡ 5 → sink.new ≡ sink.old }
+/// Tells a line of the input and what is wrong with it.
+pub fn refuse_line<K: Sink>(alloc: Global, sink: &mut K, line: u32, name: &str) -> Ending
+    ensures { EndsRefused (refusal_line line name.now) K.held K.faults sink.old sink.new result }
 {
     match line_text(alloc, line, name) {
         Ok(text) => refuse(sink, text.as_slice()),
-        Err(NoMemory) => NO_MEMORY,
+        Err(NoMemory) => Ending::NoMemory,
     }
 }
 
-/// Tells a place of code that has no instruction. Gives the status.
-pub fn refuse_place<K: Sink>(alloc: Global, sink: &mut K, place: u32) -> u8
-    ensures status { (result ≡ 2) ⊎ (result ≡ 4) ⊎ (result ≡ 5) }
-    ensures refused { result ≡ 2 → Appends (K.held sink.old) (K.held sink.new) (place_line place) }
-    ensures front { result ≡ 4 → AppendsFront (K.held sink.old) (K.held sink.new) (place_line place) }
-    ensures fault { result ≡ 4 → Rose (K.faults sink.old) (K.faults sink.new) }
-    ensures no_memory { result ≡ 5 → sink.new ≡ sink.old }
+/// Tells a place of code that has no instruction.
+pub fn refuse_place<K: Sink>(alloc: Global, sink: &mut K, place: u32) -> Ending
+    ensures { EndsRefused (place_line place) K.held K.faults sink.old sink.new result }
 {
     match place_text(alloc, place) {
         Ok(text) => refuse(sink, text.as_slice()),
-        Err(NoMemory) => NO_MEMORY,
+        Err(NoMemory) => Ending::NoMemory,
     }
 }

@@ -47,7 +47,7 @@ fn given(alloc: Global, words: &str, input: &str, output: &str) -> Option<(u8, b
 }
 
 // What an input gives: the status, and the text that is written.
-const CASES: [(&str, u8, &str); 26] = [
+const CASES: [(&str, u8, &str); 28] = [
     (
         WRITE,
         0,
@@ -174,9 +174,21 @@ const CASES: [(&str, u8, &str); 26] = [
     ),
     // What is not built yet is no word.
     (
-        "nvmecp 1 block=512 depth=1 budget=1\nnvm 1 blocks=8\n",
+        "nvmecp 1 block=512 depth=1 budget=1\nmem 1 bytes=16\nphase\nhost 1\nsend 1 setdelete set=1\n",
         2,
-        "line 2: Word\n",
+        "line 5: Word\n",
+    ),
+    // NVM namespaces stand before those of memory.
+    (
+        "nvmecp 1 block=512 depth=1 budget=1\nmem 1 bytes=16\nnvm 1 blocks=8\n",
+        2,
+        "line 3: Order\n",
+    ),
+    // Copies, of which each source is read from the old bytes.
+    (
+        "nvmecp 1 block=512 depth=16 budget=1000\nnvm 1 blocks=8\nmem 1 bytes=16\nphase\nhost 1\nsend 1 memwrite ns=1 at=0 data=000102030405\ntake 1\nsend 2 memcopy ns=1 at=4 from=m1:0:8\ntake 2\nsend 3 memcopy ns=1 at=8 from=m1:0:4,m1:2:4\ntake 3\nsend 4 nvmcopy ns=1 lba=0 from=m1:0:16\ntake 4\nsend 5 nvmzeroes ns=1 lba=7 count=2\nshow mem 1 at=8 len=8\n",
+        0,
+        "#1 h1 n1 c1 memwrite Ok r=0 d=\n#2 h1 n2 c2 memcopy CopyOverlap r=0 d=\n#3 h1 n3 c3 memcopy Ok r=0 d=\n#4 h1 n4 c4 nvmcopy BadLength r=0 d=\n#5 h1 n5 c5 nvmzeroes OutOfRange r=0 d=\nshow mem 1 at=8 len=8 d=0001020302030405\n",
     ),
 ];
 

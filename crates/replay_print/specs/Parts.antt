@@ -1,9 +1,9 @@
 -- The parts of the printed lines. This project's own.
 use Rattle.std.specs.Prelude.{ℕ, List, [], ◌∷◌, ◌++◌, codes}
+use Rattle.cp_base.specs.Words.{word_text}
 use Rattle.cp_base.specs.declared.replies.Status.{Status}
+use Rattle.cp_base.specs.declared.words.CommandWord.{CommandWord}
 use Rattle.cp_text.specs.HexText.{hex_text}
-use Rattle.script_cmds.specs.Line.{word_text}
-use Rattle.script_cmds.specs.declared.word.CommandWord.{CommandWord}
 use Rattle.history_model.specs.Text.{lettered, status_text}
 
 -- the front of an entry's line: its number, and the host, the ordinal and the identifier of its command

@@ -6,8 +6,7 @@ ghost use Rattle.replay_print.specs.Parts.{name_text, outcome_text};
 use crate::laws::LONGEST_LINE;
 use crate::names::status_name;
 use crate::pieces::{append_data, append_lettered, lettered_len, make_line_room};
-use cp_base::{Bytes, NoMemory, Status};
-use script_cmds::CommandWord;
+use cp_base::{Bytes, CommandWord, NoMemory, Status};
 
 /// What a line of a history tells of one command: who sent it, and what the device answered.
 #[derive(Clone, Copy, Debug)]

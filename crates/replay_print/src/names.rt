@@ -34,5 +34,6 @@ pub fn status_name(status: Status) -> &'static str
         Status::CallDepth => "CallDepth",
         Status::BudgetSpent => "BudgetSpent",
         Status::NoMemory => "NoMemory",
+        Status::Aborted => "Aborted",
     }
 }

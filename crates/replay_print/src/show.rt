@@ -1,6 +1,6 @@
 // The line of a show.
 ghost use Rattle.std.specs.Prelude.{◌≡◌, ◌+◌, ◌<◌, ◌≤◌, ◌++◌, length, OnOk, OnErr, IsOk};
-ghost use Rattle.script_cmds.specs.Line.{line_text};
+ghost use Rattle.script_line.specs.Line.{line_text};
 ghost use Rattle.script_cmds.specs.Text.{show_line};
 ghost use Rattle.history_model.specs.Text.{shown_text};
 

@@ -1,6 +1,6 @@
 use super::*;
-use cp_base::{ByteRange, Bytes, SpaceId, Status};
-use script_cmds::{CommandWord, Show};
+use cp_base::{ByteRange, Bytes, CommandWord, SpaceId, Status};
+use script_cmds::Show;
 use std::test::Fail;
 
 // An entry without data.

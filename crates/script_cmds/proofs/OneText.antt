@@ -1,35 +1,37 @@
 -- The text of a script is read again, and no other script has it.
 use Rattle.std.proofs.Common.{◌≡◌, ℕ, ◌+◌, Bool, true, false, cond, eqb, List, [], ◌∷◌, ◌++◌, length, map, None, Result, Ok, Err, refl, sym, ap, ◌∙◌, arith, length-append}
-use Rattle.std.specs.Prelude.{All, is_ok}
-use Rattle.cp_base.specs.declared.commands.Command.{Command}
-use Rattle.cp_base.specs.declared.commands.Command.TheVariants as command
+use Rattle.std.specs.Prelude.{is_ok}
+use Rattle.std.proofs.lemmas.List.Elements.{All-head, All-tail}
 use Rattle.cp_base.specs.declared.region.SpaceId.{SpaceId}
 use Rattle.cp_base.specs.declared.region.SpaceId.TheVariants as space
-use Rattle.script_cmds.specs.declared.fault.TextCause.{TextCause}
+use Rattle.cp_text.specs.Parts.{parts_between}
+use Rattle.cp_text.proofs.Joined.{part_first}
+use Rattle.script_line.specs.declared.fault.TextCause.{TextCause}
+use Rattle.script_line.specs.declared.kind.LineKind.{LineKind}
+use Rattle.script_line.specs.declared.kind.LineKind.TheVariants as line
+use Rattle.script_line.specs.declared.kind.SpaceKind.{SpaceKind}
+use Rattle.script_line.specs.declared.kind.SpaceKind.TheVariants as space_kind
+use Rattle.script_line.specs.Field.{IsShaped, Value}
+use Rattle.script_line.specs.Line.{Line, fields_of, line_text}
+use Rattle.script_line.specs.Reading.{◌>>=◌, is_built_kind}
+use Rattle.script_line.specs.Sized.{AreSized, IsLine, IsSizedLine}
+use Rattle.script_line.proofs.ReadAgain.{line_again, line_lacks, one_line}
+use Rattle.script_line.proofs.Sends.{send_shape}
 use Rattle.script_cmds.specs.declared.item.Item.{Item}
 use Rattle.script_cmds.specs.declared.item.Item.TheVariants as item
 use Rattle.script_cmds.specs.declared.item.HostPart.{HostPart}
 use Rattle.script_cmds.specs.declared.item.Phase.{Phase}
 use Rattle.script_cmds.specs.declared.item.Show.{Show}
-use Rattle.script_cmds.specs.declared.kind.LineKind.{LineKind}
-use Rattle.script_cmds.specs.declared.kind.LineKind.TheVariants as line
 use Rattle.script_cmds.specs.declared.progress.Progress.{Progress}
 use Rattle.script_cmds.specs.declared.progress.Stage.{Stage}
 use Rattle.script_cmds.specs.declared.progress.Stage.TheVariants.{AtStart}
 use Rattle.script_cmds.specs.declared.script.Script.{Script}
-use Rattle.script_cmds.specs.Drafts.{are_built_lines}
-use Rattle.script_cmds.specs.Fault.{◌>>=◌, judged, read_line, after_lines, fault_or, fault_from, first_fault, is_built_kind}
-use Rattle.script_cmds.specs.Field.{Value, parts_between}
-use Rattle.script_cmds.specs.Kept.{KeepsOrderAndLimits}
-use Rattle.script_cmds.specs.Line.{Line, fields_of, line_text, send_values, word_of}
+use Rattle.script_cmds.specs.Fault.{judged, read_line, after_lines, fault_or, fault_from, first_fault}
+use Rattle.script_cmds.specs.Kept.{KeepsOrderAndLimits, are_built_lines}
 use Rattle.script_cmds.specs.Progress.{start, is_start, is_in_part, is_in_order, advanced}
-use Rattle.script_cmds.specs.Reading.{IsShaped}
-use Rattle.script_cmds.specs.Sized.{AreSized, IsSized}
 use Rattle.script_cmds.specs.Text.{configuration_lines, item_lines, lines_of, lines_text, numbers_line, part_lines, phase_lines, region_line, script_text, show_lines, size_lines}
 use Rattle.script_cmds.proofs.Keeping.{both_true}
-use Rattle.script_cmds.proofs.Marks.{part_first}
 use Rattle.script_cmds.proofs.Puts.{passed}
-use Rattle.script_cmds.proofs.ReadAgain.{IsPlain, first_of, rest_of, line_again, line_lacks, one_line}
 use Rattle.script_cmds.proofs.WholeTexts.{fault_two}
 
 -- ---- the fields of a script's lines are of their kinds
@@ -46,34 +48,13 @@ shaped_size : (b : Bool) (l : Line) (ls : List Line) → IsShaped (fields_of l.k
 shaped_size true l ls p q = q
 shaped_size false l ls p q = (p, q)
 
-shaped_nvm : (number : ℕ) (sizes : List ℕ) → AreShaped (size_lines line.Nvm number sizes)
-shaped_nvm number [] = tt
-shaped_nvm number (size ∷ sizes) = shaped_size (eqb size 0) (numbers_line line.Nvm (number ∷ size ∷ [])) (size_lines line.Nvm (number + 1) sizes) tt (shaped_nvm (number + 1) sizes)
-
-shaped_mem : (number : ℕ) (sizes : List ℕ) → AreShaped (size_lines line.Mem number sizes)
-shaped_mem number [] = tt
-shaped_mem number (size ∷ sizes) = shaped_size (eqb size 0) (numbers_line line.Mem (number ∷ size ∷ [])) (size_lines line.Mem (number + 1) sizes) tt (shaped_mem (number + 1) sizes)
-
-shaped_send : (cid : ℕ) (c : Command) → IsShaped (fields_of (line.Send (word_of c))) (send_values cid c)
-shaped_send cid (command.NvmRead ns lba count) = tt
-shaped_send cid (command.NvmWrite ns lba bytes) = tt
-shaped_send cid (command.NvmZeroes ns lba count) = tt
-shaped_send cid (command.NvmCopy ns lba from) = tt
-shaped_send cid (command.MemRead ns at len) = tt
-shaped_send cid (command.MemWrite ns at bytes) = tt
-shaped_send cid (command.MemFill ns at len value) = tt
-shaped_send cid (command.MemCopy ns at from) = tt
-shaped_send cid (command.SetCreate ranges) = tt
-shaped_send cid (command.SetDelete set) = tt
-shaped_send cid (command.Load slot size at bytes) = tt
-shaped_send cid (command.Unload slot) = tt
-shaped_send cid (command.Activate slot) = tt
-shaped_send cid (command.Deactivate slot) = tt
-shaped_send cid (command.Execute slot set p1 p2 budget) = tt
+shaped_sizes : (kind : SpaceKind) (number : ℕ) (sizes : List ℕ) → AreShaped (size_lines (line.Namespace kind) number sizes)
+shaped_sizes kind number [] = tt
+shaped_sizes kind number (size ∷ sizes) = shaped_size (eqb size 0) (numbers_line (line.Namespace kind) (number ∷ size ∷ [])) (size_lines (line.Namespace kind) (number + 1) sizes) tt (shaped_sizes kind (number + 1) sizes)
 
 shaped_items : (items : List Item) → AreShaped (item_lines items)
 shaped_items [] = tt
-shaped_items (item.Send cid c ∷ items) = (shaped_send cid c.value, shaped_items items)
+shaped_items (item.Send cid c ∷ items) = (send_shape cid c.value, shaped_items items)
 shaped_items (item.Take cid ∷ items) = (tt, shaped_items items)
 
 shaped_parts : (parts : List HostPart) → AreShaped (part_lines parts)
@@ -96,21 +77,21 @@ shaped_lines : (script : Script) → AreShaped (lines_of script)
 shaped_lines script =
     shaped_both (configuration_lines script.config ++ phase_lines script.phases) (show_lines script.shows)
     (shaped_both (configuration_lines script.config) (phase_lines script.phases)
-    (tt, shaped_both (size_lines line.Nvm 1 script.config.nvm) (size_lines line.Mem 1 script.config.mem) (shaped_nvm 1 script.config.nvm) (shaped_mem 1 script.config.mem))
+    (tt, shaped_both (size_lines (line.Namespace space_kind.Nvm) 1 script.config.nvm) (size_lines (line.Namespace space_kind.Mem) 1 script.config.mem) (shaped_sizes space_kind.Nvm 1 script.config.nvm) (shaped_sizes space_kind.Mem 1 script.config.mem))
     (shaped_phases script.phases))
     (shaped_shows script.shows)
 
--- ---- plain lines
+-- ---- lines that have texts
 
-abbrev ArePlain : List Line → Type 0
-ArePlain [] = Unit {0}
-ArePlain (l ∷ ls) = IsPlain l × ArePlain ls
+abbrev AreLines : List Line → Type 0
+AreLines [] = Unit {0}
+AreLines (l ∷ ls) = IsLine l × AreLines ls
 
-plain_lines : (ls : List Line) → AreShaped ls → AreSized ls → ArePlain ls
-plain_lines [] p q = tt
-plain_lines (l ∷ ls) p q = (record { shape = p.0; sized = first_of (λ (x : Line). All IsSized x.values) l ls q }, plain_lines ls p.1 (rest_of (λ (x : Line). All IsSized x.values) l ls q))
+all_lines : (ls : List Line) → AreShaped ls → AreSized ls → AreLines ls
+all_lines [] p q = tt
+all_lines (l ∷ ls) p q = (record { shape = p.0; sized = All-head IsSizedLine l ls q }, all_lines ls p.1 (All-tail IsSizedLine l ls q))
 
-texts_again : (ls : List Line) → ArePlain ls → parts_between 10 (lines_text ls) ≡ map line_text ls ++ [] ∷ []
+texts_again : (ls : List Line) → AreLines ls → parts_between 10 (lines_text ls) ≡ map line_text ls ++ [] ∷ []
 texts_again [] h = refl
 texts_again (l ∷ ls) h = part_first 10 (line_text l) (lines_text ls) (line_lacks l h.0) ∙ ap (λ (ps : List (List ℕ)). line_text l ∷ ps) (texts_again ls h.1)
 
@@ -124,7 +105,7 @@ too_long t ts e =
     let same : [] ≡ ts ++ [] ∷ [] = (first_same [] t [] (ts ++ [] ∷ []) e).1 in
     omega (arith, ap length same, length-append ts ([] ∷ []))
 
-one_list : (xs ys : List Line) → ArePlain xs → ArePlain ys → map line_text xs ++ [] ∷ [] ≡ map line_text ys ++ [] ∷ [] → xs ≡ ys
+one_list : (xs ys : List Line) → AreLines xs → AreLines ys → map line_text xs ++ [] ∷ [] ≡ map line_text ys ++ [] ∷ [] → xs ≡ ys
 one_list [] [] p q e = refl
 one_list [] (y ∷ ys) p q e = absurd (too_long (line_text y) (map line_text ys) e)
 one_list (x ∷ xs) [] p q e = absurd (too_long (line_text x) (map line_text xs) (sym e))
@@ -136,8 +117,8 @@ one_list (x ∷ xs) (y ∷ ys) p q e =
 
 pub one_text : (a b : Script) → AreSized (lines_of a) → AreSized (lines_of b) → script_text a ≡ script_text b → lines_of a ≡ lines_of b
 one_text a b p q e =
-    let pa = plain_lines (lines_of a) (shaped_lines a) p in
-    let pb = plain_lines (lines_of b) (shaped_lines b) q in
+    let pa = all_lines (lines_of a) (shaped_lines a) p in
+    let pb = all_lines (lines_of b) (shaped_lines b) q in
     one_list (lines_of a) (lines_of b) pa pb (sym (texts_again (lines_of a) pa) ∙ ap (parts_between 10) e ∙ texts_again (lines_of b) pb)
 
 -- ---- no line is faulty
@@ -146,7 +127,7 @@ part_begun : (s : Stage) → is_in_part s ≡ true → is_start s ≡ false
 part_begun AtStart e = absurd cc
 part_begun _ e = refl
 
-begun : (p : Progress) (kind : LineKind) (values : List Value) → is_in_order p.stage kind values ≡ true → is_start (advanced p kind values).stage ≡ false
+pub begun : (p : Progress) (kind : LineKind) (values : List Value) → is_in_order p.stage kind values ≡ true → is_start (advanced p kind values).stage ≡ false
 begun p (line.Send w) values e = part_begun p.stage e
 begun p line.Take values e = part_begun p.stage e
 begun p _ values e = refl
@@ -159,7 +140,7 @@ fault_next : (p : Progress) (n : ℕ) (text : List ℕ) (ls : List Line) → fau
 fault_next p n text [] = fault_two p n text [] []
 fault_next p n text (m ∷ ms) = fault_two p n text (line_text m) (map line_text ms ++ [] ∷ [])
 
-fault_line : (p : Progress) (n : ℕ) (l : Line) (ls : List Line) → IsPlain l → is_built_kind l.kind ≡ true → is_ok (after_lines p (l ∷ ls)) ≡ true
+fault_line : (p : Progress) (n : ℕ) (l : Line) (ls : List Line) → IsLine l → is_built_kind l.kind ≡ true → is_ok (after_lines p (l ∷ ls)) ≡ true
     → ((q : Progress) → is_start q.stage ≡ false → is_ok (after_lines q ls) ≡ true → fault_from q (n + 1) (map line_text ls ++ [] ∷ []) ≡ None)
     → fault_from p n (line_text l ∷ (map line_text ls ++ [] ∷ [])) ≡ None
 fault_line p n l ls h b ok more =
@@ -169,20 +150,20 @@ fault_line p n l ls h b ok more =
     let read : read_line p (line_text l) ≡ Ok o.0 = ap (λ r. r >>= judged p) (line_again l h b) ∙ o.1 in
     fault_next p n (line_text l) ls ∙ ap (λ r. fault_or n r (λ q. fault_from q (n + 1) (map line_text ls ++ [] ∷ []))) read ∙ more o.0 started o.2
 
-fault_none : (p : Progress) (n : ℕ) (ls : List Line) → ArePlain ls → are_built_lines ls ≡ true → is_start p.stage ≡ false → is_ok (after_lines p ls) ≡ true → fault_from p n (map line_text ls ++ [] ∷ []) ≡ None
+fault_none : (p : Progress) (n : ℕ) (ls : List Line) → AreLines ls → are_built_lines ls ≡ true → is_start p.stage ≡ false → is_ok (after_lines p ls) ≡ true → fault_from p n (map line_text ls ++ [] ∷ []) ≡ None
 fault_none p n [] h b s ok = rw s refl
 fault_none p n (l ∷ ls) h b s ok =
     let bs = both_true (is_built_kind l.kind) (are_built_lines ls) b in
     fault_line p n l ls h.0 bs.0 ok (λ q started more. fault_none q (n + 1) ls h.1 bs.1 started more)
 
-fault_whole : (p : Progress) (n : ℕ) (l : Line) (ls : List Line) → ArePlain (l ∷ ls) → are_built_lines (l ∷ ls) ≡ true → is_ok (after_lines p (l ∷ ls)) ≡ true → fault_from p n (map line_text (l ∷ ls) ++ [] ∷ []) ≡ None
+fault_whole : (p : Progress) (n : ℕ) (l : Line) (ls : List Line) → AreLines (l ∷ ls) → are_built_lines (l ∷ ls) ≡ true → is_ok (after_lines p (l ∷ ls)) ≡ true → fault_from p n (map line_text (l ∷ ls) ++ [] ∷ []) ≡ None
 fault_whole p n l ls h b ok =
     let bs = both_true (is_built_kind l.kind) (are_built_lines ls) b in
     fault_line p n l ls h.0 bs.0 ok (λ q started more. fault_none q (n + 1) ls h.1 bs.1 started more)
 
 pub accepted : (script : Script) → AreSized (lines_of script) → are_built_lines (lines_of script) ≡ true → KeepsOrderAndLimits script → first_fault (script_text script) ≡ None
 accepted script sized built kept =
-    let plain = plain_lines (lines_of script) (shaped_lines script) sized in
+    let plain = all_lines (lines_of script) (shaped_lines script) sized in
     let config = script.config in
     ap (fault_from start 1) (texts_again (lines_of script) plain)
-    ∙ fault_whole start 1 (numbers_line line.Header (config.block ∷ config.depth ∷ config.budget ∷ [])) (size_lines line.Nvm 1 config.nvm ++ size_lines line.Mem 1 config.mem ++ phase_lines script.phases ++ show_lines script.shows) plain built kept
+    ∙ fault_whole start 1 (numbers_line line.Header (config.block ∷ config.depth ∷ config.budget ∷ [])) (size_lines (line.Namespace space_kind.Nvm) 1 config.nvm ++ size_lines (line.Namespace space_kind.Mem) 1 config.mem ++ phase_lines script.phases ++ show_lines script.shows) plain built kept

@@ -1,69 +1,29 @@
--- Lines and whole texts: what is read is spelled so, and the first fault is told.
-use Rattle.std.proofs.Common.{◌≡◌, ℕ, ◌+◌, ◌≤◌, Bool, true, false, ◌&&◌, cond, eqb, List, [], ◌∷◌, ◌++◌, length, Option, None, Result, Ok, Err, refl, sym, ap, subst, ◌∙◌, append_assoc, arith}
+-- Lines and whole texts: the first fault is told, and what is built.
+use Rattle.std.proofs.Common.{◌≡◌, ℕ, ◌+◌, ◌≤◌, Bool, true, false, ◌&&◌, cond, eqb, List, [], ◌∷◌, ◌++◌, length, Option, None, Result, Ok, Err, refl, sym, ap, ◌∙◌, append_assoc, arith}
 use Rattle.std.specs.List.{list_all}
 use Rattle.std.proofs.lemmas.List.Sums.{sum_by-append}
-use Rattle.cp_base.specs.Built.{is_built}
-use Rattle.cp_base.specs.declared.commands.Command.{Command}
-use Rattle.cp_base.specs.declared.commands.Command.TheVariants as command
-use Rattle.script_cmds.specs.declared.fault.LineEnd.{LineEnd}
-use Rattle.script_cmds.specs.declared.fault.LineEnd.TheVariants as ends
-use Rattle.script_cmds.specs.declared.fault.TextCause.{TextCause}
-use Rattle.script_cmds.specs.declared.fault.TextCause.TheVariants as cause
+use Rattle.built_commands.specs.Built.{is_built}
+use Rattle.cp_text.specs.Parts.{parts_between}
+use Rattle.cp_text.proofs.Cuts.{some_part}
+use Rattle.script_line.specs.declared.fault.TextCause.{TextCause}
+use Rattle.script_line.specs.declared.fault.TextCause.TheVariants as cause
+use Rattle.script_line.specs.Line.{Line, line_text}
+use Rattle.script_line.specs.Reading.{is_built_kind}
 use Rattle.script_cmds.specs.declared.fault.ParseEnd.{ParseEnd}
 use Rattle.script_cmds.specs.declared.fault.ParseEnd.TheVariants as told
 use Rattle.script_cmds.specs.declared.fault.ScriptFault.{ScriptFault}
-use Rattle.script_cmds.specs.Ends.{Faults, Tells}
 use Rattle.script_cmds.specs.declared.item.Item.{Item}
 use Rattle.script_cmds.specs.declared.item.Item.TheVariants as item
 use Rattle.script_cmds.specs.declared.item.HostPart.{HostPart}
 use Rattle.script_cmds.specs.declared.item.Phase as declared
-use Rattle.script_cmds.specs.declared.kind.LineKind.{LineKind}
 use Rattle.script_cmds.specs.declared.progress.Progress.{Progress}
 use Rattle.script_cmds.specs.declared.script.Script.{Script}
-use Rattle.script_cmds.specs.Drafts.{are_built_lines, newlines}
-use Rattle.script_cmds.specs.Fault.{◌>>=◌, unless, line_of, read_line, fault_at, fault_or, fault_from, is_built_kind, is_built_word}
-use Rattle.script_cmds.specs.Kept.{is_built_item, are_built}
-use Rattle.script_cmds.specs.Field.{Value, parts_between, joined_by, read_fields}
-use Rattle.script_cmds.specs.Line.{Line, kind_of, fields_of, line_text, word_of}
+use Rattle.script_cmds.specs.Ends.{Tells}
+use Rattle.script_cmds.specs.private.Faults.{Faults}
+use Rattle.script_cmds.specs.Fault.{read_line, fault_at, fault_or, fault_from, newlines}
+use Rattle.script_cmds.specs.Kept.{is_built_item, are_built, are_built_lines}
 use Rattle.script_cmds.specs.Progress.{is_start}
-use Rattle.script_cmds.specs.Reading.{Fails, IsShaped}
 use Rattle.script_cmds.specs.Text.{lines_of, lines_text, item_lines, part_lines, phase_lines, show_lines, configuration_lines}
-use Rattle.script_cmds.proofs.CutTexts.{is_some_part, joined_again}
-use Rattle.script_cmds.proofs.Spelled.{fields_spelled, ok_is}
-
-pub bind_ok : {A B : Type 0} (r : Result A TextCause) (f : A → Result B TextCause) (y : B) → (r >>= f) ≡ Ok y → (x : A) × (r ≡ Ok x) × (f x ≡ Ok y)
-bind_ok (Ok x) f y e = (x, refl, e)
-bind_ok (Err d) f y e = absurd cc
-
-unless_ok : {A : Type 0} (b : Bool) (c : TextCause) (x y : A) → unless b c x ≡ Ok y → (b ≡ true) × (x ≡ y)
-unless_ok true c x y e = (refl, cc)
-unless_ok false c x y e = absurd cc
-
--- a line that is read
-pub record Says (text : List ℕ) (l : Line) : Type 0 where
-  pub built : is_built_kind l.kind ≡ true
-  pub shape : IsShaped (fields_of l.kind) l.values
-  pub spelled : line_text l ≡ text
-
-pub line_says : (text : List ℕ) (l : Line) → line_of text ≡ Ok l → Says text l
-line_says text l e =
-    let fields : List (List ℕ) = parts_between 32 text in
-    let last : LineKind → List Value → Result Line TextCause = λ kind values. Ok (record { kind = kind; values = values }) in
-    let a = bind_ok (kind_of (parts_between 32 text)) (λ kind. unless (is_built_kind kind) cause.Word kind >>= λ built. read_fields (fields_of built) (parts_between 32 text) >>= λ values. last built values) l e in
-    let b = bind_ok (unless (is_built_kind a.0) cause.Word a.0) (λ built. read_fields (fields_of built) (parts_between 32 text) >>= λ values. last built values) l a.2 in
-    let u = unless_ok (is_built_kind a.0) cause.Word a.0 b.0 b.1 in
-    let d = bind_ok (read_fields (fields_of b.0) (parts_between 32 text)) (λ values. last b.0 values) l b.2 in
-    let s = fields_spelled (fields_of b.0) (parts_between 32 text) d.0 d.1 in
-    let made : record { kind = b.0; values = d.0 } ≡ l = ok_is (record { kind = b.0; values = d.0 }) l d.2 in
-    subst (λ (x : Line). Says text x) made (record {
-      built = ap is_built_kind (sym u.1) ∙ u.0;
-      shape = s.shape;
-      spelled = ap (joined_by 32) s.texts ∙ joined_again 32 text;
-    })
-
-pub fails_then : {A B : Type 0} (end : LineEnd) (r : Result A TextCause) (f : A → Result B TextCause) → Fails end r → Fails end (r >>= f)
-fails_then ends.NoMemory r f h = tt
-fails_then {A} (ends.Fault c) r f h = ap (λ (x : Result A TextCause). x >>= f) h
 
 -- ---- faults
 
@@ -73,7 +33,7 @@ fault_two p n (b ∷ bs) part parts = refl
 
 fault_lines : (p : Progress) (n : ℕ) (text rest after : List ℕ) → parts_between 10 rest ≡ text ∷ parts_between 10 after → fault_from p n (parts_between 10 rest) ≡ fault_or n (read_line p text) (λ p'. fault_from p' (n + 1) (parts_between 10 after))
 fault_lines p n text rest after e =
-    let q = is_some_part 10 after in
+    let q = some_part 10 after in
     ap (fault_from p n) (e ∙ ap (λ (ps : List (List ℕ)). text ∷ ps) q.2) ∙ fault_two p n text q.0 q.1 ∙ ap (λ (ps : List (List ℕ)). fault_or n (read_line p text) (λ p'. fault_from p' (n + 1) ps)) (sym q.2)
 
 pub fault_later : (p p' : Progress) (n : ℕ) (text rest after : List ℕ) → parts_between 10 rest ≡ text ∷ parts_between 10 after → read_line p text ≡ Ok p' → fault_from p n (parts_between 10 rest) ≡ fault_from p' (n + 1) (parts_between 10 after)
@@ -92,23 +52,6 @@ fault_at_end p n (b ∷ bs) e h = absurd cc
 
 -- ---- what is built
 
-built_word : (c : Command) → is_built c ≡ is_built_word (word_of c)
-built_word (command.NvmRead ns lba count) = refl
-built_word (command.NvmWrite ns lba bytes) = refl
-built_word (command.NvmZeroes ns lba count) = refl
-built_word (command.NvmCopy ns lba from) = refl
-built_word (command.MemRead ns at len) = refl
-built_word (command.MemWrite ns at bytes) = refl
-built_word (command.MemFill ns at len value) = refl
-built_word (command.MemCopy ns at from) = refl
-built_word (command.SetCreate ranges) = refl
-built_word (command.SetDelete set) = refl
-built_word (command.Load slot size at bytes) = refl
-built_word (command.Unload slot) = refl
-built_word (command.Activate slot) = refl
-built_word (command.Deactivate slot) = refl
-built_word (command.Execute slot set p1 p2 budget) = refl
-
 both_are : (a b : Bool) → (a && b) ≡ true → (a ≡ true) × (b ≡ true)
 both_are true b e = (refl, e)
 both_are false b e = absurd cc
@@ -123,8 +66,8 @@ built_front (x ∷ xs) ys e =
 built_items : (xs : List Item) → are_built_lines (item_lines xs) ≡ true → list_all is_built_item xs ≡ true
 built_items [] e = refl
 built_items (item.Send cid c ∷ xs) e =
-    let p = both_are (is_built_word (word_of c.value)) (are_built_lines (item_lines xs)) e in
-    rw (built_word c.value, p.0, built_items xs p.1) refl
+    let p = both_are (is_built c.value) (are_built_lines (item_lines xs)) e in
+    rw (p.0, built_items xs p.1) refl
 built_items (item.Take cid ∷ xs) e = built_items xs e
 
 built_parts : (xs : List HostPart) → are_built_lines (part_lines xs) ≡ true → list_all (λ (part : HostPart). list_all is_built_item part.items) xs ≡ true

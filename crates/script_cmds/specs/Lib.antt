@@ -1,12 +1,8 @@
+pub mod Counts
+pub mod Ends
 pub mod Fault
-pub mod Field
-pub mod Line
+pub mod Hosts
+pub mod Kept
 pub mod Progress
 pub mod Text
-pub mod Reading
-pub mod Drafts
-pub mod Ends
-pub mod Kept
-pub mod Said
-pub mod Printing
-pub mod Sized
+pub mod private

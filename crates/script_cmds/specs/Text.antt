@@ -9,9 +9,10 @@ use Rattle.script_cmds.specs.declared.item.HostPart.{HostPart}
 use Rattle.script_cmds.specs.declared.item.Phase.{Phase}
 use Rattle.script_cmds.specs.declared.item.Show.{Show}
 use Rattle.script_cmds.specs.declared.script.Script.{Script}
-use Rattle.script_cmds.specs.declared.kind.LineKind.{LineKind}
-use Rattle.script_cmds.specs.declared.kind.LineKind.TheVariants as line
-use Rattle.script_cmds.specs.Line.{Line, counts, send_values, word_of, line_text}
+use Rattle.script_line.specs.declared.kind.LineKind.{LineKind}
+use Rattle.script_line.specs.declared.kind.LineKind.TheVariants as line
+use Rattle.script_line.specs.declared.kind.SpaceKind.TheVariants as space_kind
+use Rattle.script_line.specs.Line.{Line, counts, send_line, line_text}
 
 -- a line of numbers
 abbrev pub numbers_line : LineKind → List ℕ → Line
@@ -25,10 +26,11 @@ size_lines kind number (size ∷ sizes) =
 
 -- the header, and the lines of the namespaces in order of their numbers, NVM before memory
 abbrev pub configuration_lines : Configuration → List Line
-configuration_lines c = numbers_line line.Header (c.block ∷ c.depth ∷ c.budget ∷ []) ∷ size_lines line.Nvm 1 c.nvm ++ size_lines line.Mem 1 c.mem
+configuration_lines c =
+    numbers_line line.Header (c.block ∷ c.depth ∷ c.budget ∷ []) ∷ size_lines (line.Namespace space_kind.Nvm) 1 c.nvm ++ size_lines (line.Namespace space_kind.Mem) 1 c.mem
 
 abbrev pub item_line : Item → Line
-item_line (item.Send cid command) = record { kind = line.Send (word_of command.value); values = send_values cid command.value }
+item_line (item.Send cid command) = send_line cid command.value
 item_line (item.Take cid) = numbers_line line.Take (cid ∷ [])
 
 abbrev pub item_lines : List Item → List Line
@@ -44,8 +46,8 @@ phase_lines [] = []
 phase_lines (phase ∷ phases) = numbers_line line.Phase [] ∷ part_lines phase.hosts ++ phase_lines phases
 
 abbrev pub region_line : SpaceId → ℕ → ℕ → Line
-region_line (space.Nvm n) start len = numbers_line line.ShowNvm (n ∷ start ∷ len ∷ [])
-region_line (space.Mem n) start len = numbers_line line.ShowMem (n ∷ start ∷ len ∷ [])
+region_line (space.Nvm n) start len = numbers_line (line.Show space_kind.Nvm) (n ∷ start ∷ len ∷ [])
+region_line (space.Mem n) start len = numbers_line (line.Show space_kind.Mem) (n ∷ start ∷ len ∷ [])
 
 abbrev pub show_line : Show → Line
 show_line show = region_line show.range.space show.range.start show.range.len

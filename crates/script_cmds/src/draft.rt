@@ -1,32 +1,47 @@
 // A script while it is read.
-ghost use Rattle.std.specs.Prelude.{◌≡◌, ◌≤◌, ◌+◌, ◌++◌, ◌∷◌, [], Ok, true, false, map, IfOk, IfErr, OnOk};
+ghost use Rattle.std.specs.Prelude.{◌≡◌, ◌+◌, ◌≤◌, ◌++◌, ◌∷◌, [], Ok, true, false, map, IfOk, IfErr, OnOk};
 ghost use Rattle.cp_base.specs.Configuration.{IsWithinLimits};
-ghost use Rattle.script_cmds.specs.Drafts.{IsDraft, are_built_lines, draft_lines, open_lines, open_part_lines};
-ghost use Rattle.script_cmds.specs.Fault.{after_lines, is_built_kind, is_built_word, judged, read_line};
-ghost use Rattle.script_cmds.specs.Line.{fields_of};
-ghost use Rattle.script_cmds.specs.Progress.{command_fits, is_start, number_at, start};
-ghost use Rattle.script_cmds.specs.Reading.{Fails, IsShaped, value_view};
-ghost use Rattle.script_cmds.specs.Text.{item_lines, lines_of, lines_text, numbers_line, part_lines, phase_lines, region_line, show_lines};
-ghost use Rattle.script_cmds.specs.declared.kind.LineKind.TheVariants as line_kind;
+ghost use Rattle.cp_base.specs.declared.limits.TheConstants.{MAX_NAMESPACE};
+ghost use Rattle.script_line.specs.Fits.{values_fit};
+ghost use Rattle.script_line.specs.Line.{fields_of};
+ghost use Rattle.script_line.specs.Reading.{is_built_kind};
+ghost use Rattle.script_line.specs.Sized.{IsLine};
+ghost use Rattle.script_line.specs.Values.{Fails, line_view, number_at, value_view};
+ghost use Rattle.script_line.specs.declared.kind.LineKind.TheVariants as line_kind;
+ghost use Rattle.script_cmds.specs.Fault.{judged, read_line};
+ghost use Rattle.script_cmds.specs.Progress.{is_start, is_within_limits, start};
+ghost use Rattle.script_cmds.specs.Text.{lines_of, lines_text};
+ghost use Rattle.script_cmds.specs.private.Drafts.{IsDraft, draft_lines};
+ghost use Rattle.script_cmds.specs.private.Stored.{AddsItem, AddsShow, EndsPart, EndsPhase, Stored};
 
-use crate::fault::LineEnd;
-use crate::field::{FieldValue, number_at};
-use crate::line::{command_of, line_of};
+use crate::limits::space_of;
 use crate::progress::{Progress, Stage};
-use crate::{CommandWord, HostPart, Item, LineKind, Phase, Script, Show};
-use cp_base::{ByteRange, NoMemory, Sequence, SpaceId};
+use crate::{HostPart, Item, Phase, Script, Show};
+use cp_base::{ByteRange, CommandWord, NoMemory, Sequence};
+use script_line::{
+    FieldValue, LineEnd, LineKind, ReadLine, SpaceKind, command_of, number_at, read_line,
+};
 use std::alloc::Global;
+use std::marker::Model;
 use std::mem;
 use std::sync::Arc;
 
 /// The script of the lines so far: what has ended, and the phase and the host's part that are open.
 #[derive(Drop)]
 pub struct Draft {
-    pub progress: Progress,
-    pub phases: Vec<Phase>,
-    pub hosts: Vec<HostPart>,
-    pub items: Vec<Item>,
-    pub shows: Vec<Show>,
+    progress: Progress,
+    phases: Vec<Phase>,
+    hosts: Vec<HostPart>,
+    items: Vec<Item>,
+    shows: Vec<Show>,
+}
+
+impl Model for Draft {
+    ghost use Rattle.script_cmds.specs.private.Drafts.{Drafted};
+
+    ghost Value = { Drafted };
+
+    ghost view = { λ d. record { progress = d.progress; phases = d.phases.items; hosts = d.hosts.items; items = d.items.items; shows = d.shows.items } };
 }
 
 impl Draft {
@@ -45,87 +60,73 @@ impl Draft {
         }
     }
 
+    /// Whether there is no line.
+    pub fn is_empty(&self) -> bool
+        ensures { result ≡ is_start self.now.progress.stage }
+    {
+        self.progress.stage.is_start()
+    }
+
     /// Adds a line by its text, without its newline.
-    pub fn add(&mut self, alloc: Global, line: &[u8]) -> Result<(), LineEnd>
+    pub fn add(&mut self, alloc: Global, text: &[u8]) -> Result<(), LineEnd>
         requires { IsDraft self.old }
         ensures draft { OnOk result (IsDraft self.new) }
-        ensures text { OnOk result (lines_text (draft_lines self.new) ≡ lines_text (draft_lines self.old) ++ (line.now ++ 10 ∷ [])) }
-        ensures read { OnOk result (read_line self.old.progress line.now ≡ Ok self.new.progress) }
-        ensures fault { IfErr result (λ end. Fails end (read_line self.old.progress line.now)) }
+        ensures text { OnOk result (lines_text (draft_lines self.new) ≡ lines_text (draft_lines self.old) ++ (text.now ++ 10 ∷ [])) }
+        ensures read { OnOk result (read_line self.old.progress text.now ≡ Ok self.new.progress) }
+        ensures fault { IfErr result (λ end. Fails end (read_line self.old.progress text.now)) }
     {
-        let (kind, values) = line_of(alloc, line)?;
-        let after = match self.progress.after(kind, &values) {
+        let line = read_line(alloc, text)?;
+        let after = match self.progress.after(&line) {
             Ok(after) => after,
             Err(cause) => return Err(LineEnd::Fault(cause)),
         };
-        self.put(alloc, kind, values, after)?;
+        self.put(alloc, line, after)?;
         Ok(())
     }
 
-    // Adds what a line says, behind which there is this.
-    fn put(
-        &mut self,
-        alloc: Global,
-        kind: LineKind,
-        values: Vec<FieldValue>,
-        after: Progress,
-    ) -> Result<(), NoMemory>
+    // Adds what a line says, behind which the script stands there.
+    fn put(&mut self, alloc: Global, line: ReadLine, after: Progress) -> Result<(), NoMemory>
         requires draft { IsDraft self.old }
-        requires after { judged self.old.progress (record { kind = kind; values = map value_view values.items }) ≡ Ok after }
-        requires limits { IsWithinLimits after.config }
-        requires built { is_built_kind kind ≡ true }
-        requires shaped { IsShaped (fields_of kind) (map value_view values.items) }
+        requires after { judged self.old.progress (line_view line) ≡ Ok after }
+        requires line { IsLine (line_view line) }
+        requires built { is_built_kind line.kind ≡ true }
         ensures draft { OnOk result (IsDraft self.new) }
-        ensures lines { OnOk result (draft_lines self.new ≡ draft_lines self.old ++ record { kind = kind; values = map value_view values.items } ∷ []) }
+        ensures lines { OnOk result (draft_lines self.new ≡ draft_lines self.old ++ line_view line ∷ []) }
         ensures progress { OnOk result (self.new.progress ≡ after) }
     {
-        match kind {
-            LineKind::Header => {
-                self.progress = after;
-                Ok(())
-            }
-            LineKind::Nvm => {
-                self.progress = after;
-                Ok(())
-            }
-            LineKind::Mem => {
-                self.progress = after;
-                Ok(())
-            }
-            LineKind::Phase => {
-                self.begin_phase(alloc, after)?;
-                Ok(())
-            }
-            LineKind::Host => {
-                self.begin_part(alloc, after)?;
-                Ok(())
-            }
-            LineKind::Send(word) => {
-                self.send(alloc, word, values, after)?;
-                Ok(())
-            }
-            LineKind::Take => {
-                self.take(values.as_slice(), after)?;
-                Ok(())
-            }
-            LineKind::ShowNvm => {
-                self.show_nvm(alloc, values.as_slice(), after)?;
-                Ok(())
-            }
-            LineKind::ShowMem => {
-                self.show_mem(alloc, values.as_slice(), after)?;
-                Ok(())
-            }
+        self.store(alloc, line)?;
+        self.stand(after);
+        Ok(())
+    }
+
+    // Says where the script stands.
+    fn stand(&mut self, after: Progress)
+        ensures { self.new ≡ record self.old { progress = after } }
+    {
+        self.progress = after;
+    }
+
+    // Keeps what a line says.
+    fn store(&mut self, alloc: Global, line: ReadLine) -> Result<(), NoMemory>
+        requires limits { IsWithinLimits self.old.progress.config }
+        requires judged { is_within_limits self.old.progress (line_view line) ≡ true }
+        requires line { IsLine (line_view line) }
+        ensures { OnOk result (Stored line.kind (line_view line).values self.old self.new) }
+    {
+        match line.kind {
+            LineKind::Header | LineKind::Namespace(_) => Ok(()),
+            LineKind::Phase => self.close_phase(alloc),
+            LineKind::Host => self.close_part(alloc),
+            LineKind::Send(word) => self.send(alloc, word, line.values),
+            LineKind::Take => self.take(line.values.as_slice()),
+            LineKind::Show(kind) => self.show(alloc, kind, line.values.as_slice()),
         }
     }
 
     // Closes the part that is open, if one is.
-    #[tactic(auto, using(crate::proofs::DraftLines::part_one_more))]
+    #[tactic(auto, using(crate::proofs::OneMore::part_one_more))]
     fn close_part(&mut self, alloc: Global) -> Result<(), NoMemory>
-        ensures hosts { OnOk result (part_lines self.new.hosts.items ≡ part_lines self.old.hosts.items ++ open_part_lines self.old.progress.stage self.old.items.items) }
-        ensures items { OnOk result (self.new.items.items ≡ []) }
-        ensures phases { OnOk result (self.new.phases ≡ self.old.phases) }
-        ensures shows { OnOk result (self.new.shows ≡ self.old.shows) }
+        ensures ended { OnOk result (EndsPart self.old self.new) }
         ensures progress { OnOk result (self.new.progress ≡ self.old.progress) }
     {
         let items = mem::replace(&mut self.items, Vec::new(alloc));
@@ -139,20 +140,16 @@ impl Draft {
             }
             Stage::AtStart
             | Stage::AfterHeader
-            | Stage::AfterNvm(_)
-            | Stage::AfterMem(_)
+            | Stage::AfterNamespace(_, _)
             | Stage::InPhase
             | Stage::AfterShow => Ok(()),
         }
     }
 
     // Closes the phase that is open, if one is, and its part.
-    #[tactic(auto, using(crate::proofs::DraftLines::phase_one_more))]
+    #[tactic(auto, using(crate::proofs::OneMore::phase_one_more))]
     fn close_phase(&mut self, alloc: Global) -> Result<(), NoMemory>
-        ensures phases { OnOk result (phase_lines self.new.phases.items ≡ phase_lines self.old.phases.items ++ open_lines self.old.progress.stage self.old.hosts.items self.old.items.items) }
-        ensures hosts { OnOk result (self.new.hosts.items ≡ []) }
-        ensures items { OnOk result (self.new.items.items ≡ []) }
-        ensures shows { OnOk result (self.new.shows ≡ self.old.shows) }
+        ensures ended { OnOk result (EndsPhase self.old self.new) }
         ensures progress { OnOk result (self.new.progress ≡ self.old.progress) }
     {
         self.close_part(alloc)?;
@@ -164,159 +161,59 @@ impl Draft {
                 })?;
                 Ok(())
             }
-            Stage::AtStart
-            | Stage::AfterHeader
-            | Stage::AfterNvm(_)
-            | Stage::AfterMem(_)
-            | Stage::AfterShow => Ok(()),
+            Stage::AtStart | Stage::AfterHeader | Stage::AfterNamespace(_, _) | Stage::AfterShow =>
+                Ok(()),
         }
     }
 
-    // Begins a phase.
-    fn begin_phase(&mut self, alloc: Global, after: Progress) -> Result<(), NoMemory>
-        ensures phases { OnOk result (phase_lines self.new.phases.items ≡ phase_lines self.old.phases.items ++ open_lines self.old.progress.stage self.old.hosts.items self.old.items.items) }
-        ensures hosts { OnOk result (self.new.hosts.items ≡ []) }
-        ensures items { OnOk result (self.new.items.items ≡ []) }
-        ensures shows { OnOk result (self.new.shows ≡ self.old.shows) }
-        ensures progress { OnOk result (self.new.progress ≡ after) }
-    {
-        self.close_phase(alloc)?;
-        self.progress = after;
-        Ok(())
-    }
-
-    // Begins a host's part.
-    fn begin_part(&mut self, alloc: Global, after: Progress) -> Result<(), NoMemory>
-        ensures hosts { OnOk result (part_lines self.new.hosts.items ≡ part_lines self.old.hosts.items ++ open_part_lines self.old.progress.stage self.old.items.items) }
-        ensures items { OnOk result (self.new.items.items ≡ []) }
-        ensures phases { OnOk result (self.new.phases ≡ self.old.phases) }
-        ensures shows { OnOk result (self.new.shows ≡ self.old.shows) }
-        ensures progress { OnOk result (self.new.progress ≡ after) }
-    {
-        self.close_part(alloc)?;
-        self.progress = after;
-        Ok(())
-    }
-
     // Adds a command that the open host sends.
-    #[tactic(auto, using(crate::proofs::DraftLines::item_one_more))]
+    #[tactic(auto, using(crate::proofs::OneMore::item_one_more))]
     fn send(
         &mut self,
         alloc: Global,
         word: CommandWord,
         values: Vec<FieldValue>,
-        after: Progress,
     ) -> Result<(), NoMemory>
-        requires built { is_built_word word ≡ true }
-        requires shaped { IsShaped (fields_of (line_kind.Send word)) (map value_view values.items) }
-        requires fits { command_fits word (map value_view values.items) ≡ true }
-        requires cid { number_at (map value_view values.items) 0 ≤ 65535 }
-        ensures items { OnOk result (item_lines self.new.items.items ≡ item_lines self.old.items.items ++ record { kind = line_kind.Send word; values = map value_view values.items } ∷ []) }
-        ensures hosts { OnOk result (self.new.hosts ≡ self.old.hosts) }
-        ensures phases { OnOk result (self.new.phases ≡ self.old.phases) }
-        ensures shows { OnOk result (self.new.shows ≡ self.old.shows) }
-        ensures progress { OnOk result (self.new.progress ≡ after) }
+        requires line { IsLine (record { kind = line_kind.Send word; values = map value_view values.items }) }
+        requires fits { values_fit (fields_of (line_kind.Send word)) (map value_view values.items) ≡ true }
+        ensures { OnOk result (AddsItem (record { kind = line_kind.Send word; values = map value_view values.items }) self.old self.new) }
     {
-        let cid = number_at(&values, 0) as u32;
-        let command = command_of(alloc, word, values);
+        let cid = number_at(values.as_slice(), 0) as u32;
+        let command = command_of(alloc, word, values)?;
         let command = Arc::new(alloc, command)?;
         self.items.push(Item::Send { cid, command })?;
-        self.progress = after;
         Ok(())
     }
 
     // Adds a reply that the open host takes.
-    #[tactic(auto, using(crate::proofs::DraftLines::item_one_more))]
-    fn take(&mut self, values: &[FieldValue], after: Progress) -> Result<(), NoMemory>
-        requires { number_at (map value_view values.now) 0 ≤ 65535 }
-        ensures items { OnOk result (item_lines self.new.items.items ≡ item_lines self.old.items.items ++ numbers_line line_kind.Take (number_at (map value_view values.now) 0 ∷ []) ∷ []) }
-        ensures hosts { OnOk result (self.new.hosts ≡ self.old.hosts) }
-        ensures phases { OnOk result (self.new.phases ≡ self.old.phases) }
-        ensures shows { OnOk result (self.new.shows ≡ self.old.shows) }
-        ensures progress { OnOk result (self.new.progress ≡ after) }
+    #[tactic(auto, using(crate::proofs::OneMore::item_one_more))]
+    fn take(&mut self, values: &[FieldValue]) -> Result<(), NoMemory>
+        requires line { IsLine (record { kind = line_kind.Take; values = map value_view values.now }) }
+        requires fits { values_fit (fields_of line_kind.Take) (map value_view values.now) ≡ true }
+        ensures { OnOk result (AddsItem (record { kind = line_kind.Take; values = map value_view values.now }) self.old self.new) }
     {
         let cid = number_at(values, 0) as u32;
         self.items.push(Item::Take { cid })?;
-        self.progress = after;
         Ok(())
     }
 
-    // Adds bytes of an NVM namespace that are shown.
-    fn show_nvm(
-        &mut self,
-        alloc: Global,
-        values: &[FieldValue],
-        after: Progress,
-    ) -> Result<(), NoMemory>
-        requires number { number_at (map value_view values.now) 0 ≤ 8 }
-        requires some { 1 ≤ number_at (map value_view values.now) 2 }
-        requires inside { number_at (map value_view values.now) 1 + number_at (map value_view values.now) 2 ≤ 16777216 }
-        ensures shows { OnOk result (show_lines self.new.shows.items ≡ show_lines self.old.shows.items
-            ++ numbers_line line_kind.ShowNvm (number_at (map value_view values.now) 0 ∷ number_at (map value_view values.now) 1 ∷ number_at (map value_view values.now) 2 ∷ []) ∷ []) }
-        ensures phases { OnOk result (phase_lines self.new.phases.items ≡ phase_lines self.old.phases.items ++ open_lines self.old.progress.stage self.old.hosts.items self.old.items.items) }
-        ensures hosts { OnOk result (self.new.hosts.items ≡ []) }
-        ensures items { OnOk result (self.new.items.items ≡ []) }
-        ensures progress { OnOk result (self.new.progress ≡ after) }
-    {
-        let space = SpaceId::Nvm(number_at(values, 0) as u32);
-        self.show(
-            alloc,
-            space,
-            number_at(values, 1),
-            number_at(values, 2),
-            after,
-        )
-    }
-
-    // Adds bytes of a memory namespace that are shown.
-    fn show_mem(
-        &mut self,
-        alloc: Global,
-        values: &[FieldValue],
-        after: Progress,
-    ) -> Result<(), NoMemory>
-        requires number { number_at (map value_view values.now) 0 ≤ 8 }
-        requires some { 1 ≤ number_at (map value_view values.now) 2 }
-        requires inside { number_at (map value_view values.now) 1 + number_at (map value_view values.now) 2 ≤ 16777216 }
-        ensures shows { OnOk result (show_lines self.new.shows.items ≡ show_lines self.old.shows.items
-            ++ numbers_line line_kind.ShowMem (number_at (map value_view values.now) 0 ∷ number_at (map value_view values.now) 1 ∷ number_at (map value_view values.now) 2 ∷ []) ∷ []) }
-        ensures phases { OnOk result (phase_lines self.new.phases.items ≡ phase_lines self.old.phases.items ++ open_lines self.old.progress.stage self.old.hosts.items self.old.items.items) }
-        ensures hosts { OnOk result (self.new.hosts.items ≡ []) }
-        ensures items { OnOk result (self.new.items.items ≡ []) }
-        ensures progress { OnOk result (self.new.progress ≡ after) }
-    {
-        let space = SpaceId::Mem(number_at(values, 0) as u32);
-        self.show(
-            alloc,
-            space,
-            number_at(values, 1),
-            number_at(values, 2),
-            after,
-        )
-    }
-
     // Adds bytes that are shown.
-    #[tactic(auto, using(crate::proofs::DraftLines::show_one_more))]
+    #[tactic(auto, using(crate::proofs::OneMore::show_one_more))]
     fn show(
         &mut self,
         alloc: Global,
-        space: SpaceId,
-        start: u64,
-        len: u64,
-        after: Progress,
+        kind: SpaceKind,
+        values: &[FieldValue],
     ) -> Result<(), NoMemory>
-        requires some { 1 ≤ len }
-        requires inside { start + len ≤ 16777216 }
-        ensures shows { OnOk result (show_lines self.new.shows.items ≡ show_lines self.old.shows.items ++ region_line space start len ∷ []) }
-        ensures phases { OnOk result (phase_lines self.new.phases.items ≡ phase_lines self.old.phases.items ++ open_lines self.old.progress.stage self.old.hosts.items self.old.items.items) }
-        ensures hosts { OnOk result (self.new.hosts.items ≡ []) }
-        ensures items { OnOk result (self.new.items.items ≡ []) }
-        ensures progress { OnOk result (self.new.progress ≡ after) }
+        requires line { IsLine (record { kind = line_kind.Show kind; values = map value_view values.now }) }
+        requires fits { values_fit (fields_of (line_kind.Show kind)) (map value_view values.now) ≡ true }
+        requires inside { number_at (map value_view values.now) 1 + number_at (map value_view values.now) 2 ≤ MAX_NAMESPACE }
+        ensures { OnOk result (AddsShow (record { kind = line_kind.Show kind; values = map value_view values.now }) self.old self.new) }
     {
+        let space = space_of(kind, number_at(values, 0) as u32);
+        let range = ByteRange::new(space, number_at(values, 1), number_at(values, 2)).unwrap();
         self.close_phase(alloc)?;
-        let range = ByteRange::new(space, start, len).unwrap();
         self.shows.push(Show { range })?;
-        self.progress = after;
         Ok(())
     }
 

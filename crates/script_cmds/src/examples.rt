@@ -1,7 +1,7 @@
 // Worked examples of the definitions. The function does nothing: what it ensures is what is proved.
 ghost use Rattle.std.specs.Prelude.{◌≡◌, ◌++◌, ◌∷◌, [], Some, None, codes};
 ghost use Rattle.script_cmds.specs.Fault.{first_fault, fault_at};
-ghost use Rattle.script_cmds.specs.declared.fault.TextCause.TheVariants as cause;
+ghost use Rattle.script_line.specs.declared.fault.TextCause.TheVariants as cause;
 
 /// Texts and their first faults.
 pub fn faults_by_example()

@@ -1,35 +1,10 @@
 // Why a text is no script.
 ghost use Rattle.std.specs.Prelude.{◌≡◌};
-ghost use Rattle.script_cmds.specs.declared.fault.LineEnd.TheVariants as variant;
 ghost use Rattle.script_cmds.specs.declared.fault.ParseEnd.TheVariants as told;
-ghost use Rattle.script_cmds.specs.Field.{first_of_two};
 
 use cp_base::NoMemory;
-use std::alloc::{AllocError, AllocFailed};
+use script_line::TextCause;
 use thiserror::Error;
-
-/// What is wrong with a line. Where several hold, the first of this order is told.
-#[derive(Clone, Copy, Debug, PartialEq, Eq, Error)]
-pub enum TextCause {
-    /// A word that begins no line, command or show, or a line that is not ended.
-    #[error("a word is none of those that may stand there, or the line is not ended")]
-    Word,
-    /// Fields are missing or too many, or one has not the form of its kind.
-    #[error("a field is missing, is too many or has another form")]
-    Field,
-    /// What stands in the place of a number is none.
-    #[error("a number is none")]
-    Number,
-    /// What stands in the place of data is none.
-    #[error("data is none")]
-    Hex,
-    /// The line stands in the wrong place.
-    #[error("the line stands in the wrong place")]
-    Order,
-    /// A value is outside its limit.
-    #[error("a value is outside its limit")]
-    Limit,
-}
 
 /// The first faulty line of a text, counted from 1, and its first cause.
 #[derive(Clone, Copy, Debug, PartialEq, Eq)]
@@ -45,50 +20,6 @@ pub enum ParseEnd {
     Fault(ScriptFault),
     #[error("memory is wanting")]
     NoMemory,
-}
-
-/// Why there is nothing of a line: a cause, or memory was wanting.
-#[derive(Clone, Copy, Debug, PartialEq, Eq)]
-pub enum LineEnd {
-    Fault(TextCause),
-    NoMemory,
-}
-
-impl From<NoMemory> for LineEnd {
-    ghost from_gives = { λ _ e. e ≡ variant.NoMemory };
-
-    fn from(_: NoMemory) -> LineEnd {
-        LineEnd::NoMemory
-    }
-}
-
-impl From<AllocError> for LineEnd {
-    ghost from_gives = { λ _ e. e ≡ variant.NoMemory };
-
-    fn from(_: AllocError) -> LineEnd {
-        LineEnd::NoMemory
-    }
-}
-
-impl<T: Drop> From<AllocFailed<T>> for LineEnd {
-    ghost from_gives = { λ _ e. e ≡ variant.NoMemory };
-
-    fn from(_: AllocFailed<T>) -> LineEnd {
-        LineEnd::NoMemory
-    }
-}
-
-impl TextCause {
-    /// The first of two causes in the order in which they are told.
-    pub fn first_of_two(self, other: TextCause) -> TextCause
-        ensures { result ≡ first_of_two self other }
-    {
-        if self as u8 <= other as u8 {
-            self
-        } else {
-            other
-        }
-    }
 }
 
 impl From<NoMemory> for ParseEnd {

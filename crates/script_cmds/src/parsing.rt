@@ -1,18 +1,19 @@
 // A whole script, read from its text.
-ghost use Rattle.std.specs.Prelude.{◌≡◌, ◌≤◌, ◌++◌, ◌∷◌, [], Ok, None, IsTrue, IfOk, IfErr, IfSome, OnOk, MatchOption, length};
-ghost use Rattle.script_cmds.specs.Drafts.{IsDraft, draft_lines, newlines};
-ghost use Rattle.script_cmds.specs.Fault.{first_fault, read_line};
-ghost use Rattle.script_cmds.specs.Kept.{KeepsOrderAndLimits, are_built};
-ghost use Rattle.script_cmds.specs.Field.{parts_between};
-ghost use Rattle.script_cmds.specs.Ends.{Faults, Tells};
+ghost use Rattle.std.specs.Prelude.{◌≡◌, ◌≤◌, ◌++◌, ◌∷◌, [], Ok, None, IsTrue, IfOk, IfErr, OnOk, length};
+ghost use Rattle.script_line.specs.Sized.{AreSized};
+ghost use Rattle.script_cmds.specs.Ends.{Tells};
+ghost use Rattle.script_cmds.specs.Fault.{first_fault, newlines, read_line};
+ghost use Rattle.script_cmds.specs.Kept.{KeepsOrderAndLimits, are_built, are_built_lines};
+ghost use Rattle.script_cmds.specs.private.Drafts.{IsDraft, draft_lines};
+ghost use Rattle.script_cmds.specs.private.Faults.{Faults};
 ghost use Rattle.script_cmds.specs.declared.fault.ParseEnd.TheVariants as end;
 ghost use Rattle.script_cmds.specs.Text.{lines_of, lines_text, script_text};
 
 use crate::draft::Draft;
-use crate::fault::LineEnd;
-use crate::parts::split_part;
-use crate::{ParseEnd, Script, ScriptFault, TextCause};
+use crate::{ParseEnd, Script, ScriptFault};
 use cp_base::Bytes;
+use cp_text::next_line;
+use script_line::{LineEnd, TextCause};
 use std::alloc::Global;
 
 /// The script that a text spells. There is one exactly where no line of the text is faulty; else the
@@ -25,7 +26,9 @@ pub fn parse(alloc: Global, text: &Bytes) -> Result<Script, ParseEnd>
     ensures text { IfOk result (λ script. script_text script ≡ text.now.items) }
     ensures accepted { OnOk result (first_fault text.now.items ≡ None) }
     ensures order_and_limits { IfOk result KeepsOrderAndLimits }
+    ensures sized { IfOk result (λ script. AreSized (lines_of script)) }
     ensures built { IfOk result (λ script. IsTrue (are_built script)) }
+    ensures built_lines { IfOk result (λ script. IsTrue (are_built_lines (lines_of script))) }
     ensures lines { IfOk result (λ script. length (lines_of script) ≤ 4294967294) }
     ensures fault { IfErr result (λ end. Tells end (first_fault text.now.items)) }
 {
@@ -40,22 +43,10 @@ pub fn parse(alloc: Global, text: &Bytes) -> Result<Script, ParseEnd>
     if !rest.is_empty() {
         return Err(fault_at(number, TextCause::Word));
     }
-    if draft.progress.stage.is_start() {
+    if draft.is_empty() {
         return Err(fault_at(number, TextCause::Order));
     }
     Ok(draft.finish(alloc)?)
-}
-
-// A line without its newline, and what stands behind that.
-fn next_line(text: &[u8]) -> Option<(&[u8], &[u8])>
-    ensures parts { MatchOption result (parts_between 10 text.now ≡ text.now ∷ []) (λ cut. parts_between 10 text.now ≡ cut.0.now ∷ parts_between 10 cut.1.now) }
-    ensures whole { IfSome result (λ cut. text.now ≡ cut.0.now ++ 10 ∷ cut.1.now) }
-{
-    let (line, rest) = split_part(text, b'\n');
-    match rest {
-        Some(rest) => Some((line, rest)),
-        None => None,
-    }
 }
 
 // Adds the line of this number to a draft.

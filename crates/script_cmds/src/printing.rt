@@ -1,20 +1,21 @@
 // A whole script as its one text.
 ghost use Rattle.std.specs.Prelude.{◌≡◌, ℕ, ◌≤◌, ◌∷◌, [], None, length, IsTrue, IfOk, OnOk};
-ghost use Rattle.script_cmds.specs.Drafts.{are_built_lines};
+ghost use Rattle.cp_base.specs.declared.limits.TheConstants.{NAMESPACES};
+ghost use Rattle.script_line.specs.Field.{IsShaped};
+ghost use Rattle.script_line.specs.Line.{Line, counts, fields_of};
+ghost use Rattle.script_line.specs.Printing.{PrintsLine};
+ghost use Rattle.script_line.specs.Sized.{AreSized};
 ghost use Rattle.script_cmds.specs.Fault.{first_fault};
-ghost use Rattle.script_cmds.specs.Kept.{KeepsOrderAndLimits};
-ghost use Rattle.script_cmds.specs.Line.{counts, fields_of, send_values, word_of};
-ghost use Rattle.script_cmds.specs.Printing.{Prints};
-ghost use Rattle.script_cmds.specs.Reading.{IsShaped};
-ghost use Rattle.script_cmds.specs.Sized.{AreSized};
+ghost use Rattle.script_cmds.specs.Kept.{KeepsOrderAndLimits, are_built_lines};
+ghost use Rattle.script_cmds.specs.private.Printing.{Prints};
 ghost use Rattle.script_cmds.specs.Text.{configuration_lines, item_line, item_lines, lines_of, numbers_line, part_lines, phase_lines, script_text, show_line, show_lines, size_lines};
-ghost use Rattle.script_cmds.specs.declared.content.FieldContent.TheVariants as said;
-ghost use Rattle.script_cmds.specs.declared.kind.LineKind.TheVariants as line_kind;
+ghost use Rattle.script_line.specs.declared.content.FieldContent.TheVariants as said;
+ghost use Rattle.script_line.specs.declared.kind.LineKind.TheVariants as line_kind;
 
-use crate::content::FieldContent::{self, Copied, Count, Covered, Data};
-use crate::content::push_line;
-use crate::{CommandWord, HostPart, Item, LineKind, Phase, Script, Show};
-use cp_base::{Bytes, Command, Config, NoMemory, SpaceId};
+use crate::{HostPart, Item, Phase, Script, Show};
+use cp_base::{Bytes, Config, NoMemory, SpaceId};
+use script_line::FieldContent::{self, Count};
+use script_line::{LineKind, SpaceKind, push_line, push_send};
 use std::alloc::Global;
 
 /// The one text of a script: its lines in their order, each ended by a newline. `parse` reads it again
@@ -39,8 +40,8 @@ fn push_configuration(out: &mut Bytes, config: &Config) -> Result<(), NoMemory>
     ensures { OnOk result (Prints (configuration_lines config.now) out.old.items out.new.items) }
 {
     push_header(out, config)?;
-    push_sizes(out, LineKind::Nvm, config.nvm())?;
-    push_sizes(out, LineKind::Mem, config.mem())?;
+    push_sizes(out, SpaceKind::Nvm, config.nvm())?;
+    push_sizes(out, SpaceKind::Mem, config.mem())?;
     Ok(())
 }
 
@@ -62,10 +63,9 @@ fn small(n: u32) -> FieldContent<'static>
 }
 
 // Adds a line for each size that is not 0. They are numbered from 1.
-fn push_sizes(out: &mut Bytes, kind: LineKind, sizes: &[u32]) -> Result<(), NoMemory>
-    requires shaped { (number size : ℕ) → IsShaped (fields_of kind) (counts (number ∷ size ∷ [])) }
-    requires few { length sizes.now ≤ 8 }
-    ensures { OnOk result (Prints (size_lines kind 1 sizes.now) out.old.items out.new.items) }
+fn push_sizes(out: &mut Bytes, kind: SpaceKind, sizes: &[u32]) -> Result<(), NoMemory>
+    requires { length sizes.now ≤ NAMESPACES }
+    ensures { OnOk result (Prints (size_lines (line_kind.Namespace kind) 1 sizes.now) out.old.items out.new.items) }
 {
     let mut number = 1;
     for size in sizes {
@@ -76,14 +76,17 @@ fn push_sizes(out: &mut Bytes, kind: LineKind, sizes: &[u32]) -> Result<(), NoMe
 }
 
 // Adds the line of a size, where it is not 0.
-fn push_size(out: &mut Bytes, kind: LineKind, number: u32, size: u32) -> Result<(), NoMemory>
-    requires { (number size : ℕ) → IsShaped (fields_of kind) (counts (number ∷ size ∷ [])) }
-    ensures { OnOk result (Prints (size_lines kind number (size ∷ [])) out.old.items out.new.items) }
+fn push_size(out: &mut Bytes, kind: SpaceKind, number: u32, size: u32) -> Result<(), NoMemory>
+    ensures { OnOk result (Prints (size_lines (line_kind.Namespace kind) number (size ∷ [])) out.old.items out.new.items) }
 {
     if size == 0 {
         return Ok(());
     }
-    push_line(out, kind, &[small(number), small(size)])
+    push_line(
+        out,
+        LineKind::Namespace(kind),
+        &[small(number), small(size)],
+    )
 }
 
 // Adds the lines of phases.
@@ -128,96 +131,6 @@ fn push_item(out: &mut Bytes, item: &Item) -> Result<(), NoMemory>
     }
 }
 
-// Adds the line of a command that is sent.
-fn push_send(out: &mut Bytes, cid: u32, command: &Command) -> Result<(), NoMemory>
-    ensures { OnOk result (Prints (record { kind = line_kind.Send (word_of command.now); values = send_values cid command.now } ∷ []) out.old.items out.new.items) }
-{
-    let cid = small(cid);
-    match command {
-        Command::NvmRead { ns, lba, count } => {
-            let contents = [cid, small(*ns), Count(*lba), Count(*count)];
-            push_line(out, LineKind::Send(CommandWord::NvmRead), &contents)
-        }
-        Command::NvmWrite { ns, lba, bytes } => {
-            let contents = [cid, small(*ns), Count(*lba), Data(bytes.as_slice())];
-            push_line(out, LineKind::Send(CommandWord::NvmWrite), &contents)
-        }
-        Command::NvmZeroes { ns, lba, count } => {
-            let contents = [cid, small(*ns), Count(*lba), Count(*count)];
-            push_line(out, LineKind::Send(CommandWord::NvmZeroes), &contents)
-        }
-        Command::NvmCopy { ns, lba, from } => {
-            let contents = [cid, small(*ns), Count(*lba), Copied(from)];
-            push_line(out, LineKind::Send(CommandWord::NvmCopy), &contents)
-        }
-        Command::MemRead { ns, at, len } => {
-            let contents = [cid, small(*ns), Count(*at), Count(*len)];
-            push_line(out, LineKind::Send(CommandWord::MemRead), &contents)
-        }
-        Command::MemWrite { ns, at, bytes } => {
-            let contents = [cid, small(*ns), Count(*at), Data(bytes.as_slice())];
-            push_line(out, LineKind::Send(CommandWord::MemWrite), &contents)
-        }
-        Command::MemFill { ns, at, len, value } => {
-            let value = small(u32::from(*value));
-            let contents = [cid, small(*ns), Count(*at), Count(*len), value];
-            push_line(out, LineKind::Send(CommandWord::MemFill), &contents)
-        }
-        Command::MemCopy { ns, at, from } => {
-            let contents = [cid, small(*ns), Count(*at), Copied(from)];
-            push_line(out, LineKind::Send(CommandWord::MemCopy), &contents)
-        }
-        Command::SetCreate { ranges } => {
-            let contents = [cid, Covered(ranges)];
-            push_line(out, LineKind::Send(CommandWord::SetCreate), &contents)
-        }
-        Command::SetDelete { set } => {
-            let contents = [cid, small(*set)];
-            push_line(out, LineKind::Send(CommandWord::SetDelete), &contents)
-        }
-        Command::Load {
-            slot,
-            size,
-            at,
-            bytes,
-        } => {
-            let data = Data(bytes.as_slice());
-            let contents = [cid, small(*slot), Count(*size), Count(*at), data];
-            push_line(out, LineKind::Send(CommandWord::Load), &contents)
-        }
-        Command::Unload { slot } => {
-            let contents = [cid, small(*slot)];
-            push_line(out, LineKind::Send(CommandWord::Unload), &contents)
-        }
-        Command::Activate { slot } => {
-            let contents = [cid, small(*slot)];
-            push_line(out, LineKind::Send(CommandWord::Activate), &contents)
-        }
-        Command::Deactivate { slot } => {
-            let contents = [cid, small(*slot)];
-            push_line(out, LineKind::Send(CommandWord::Deactivate), &contents)
-        }
-        Command::Execute {
-            slot,
-            set,
-            p1,
-            p2,
-            budget,
-        } => {
-            let front = [cid, small(*slot), small(*set)];
-            let contents = [
-                front[0],
-                front[1],
-                front[2],
-                Count(*p1),
-                Count(*p2),
-                Count(*budget),
-            ];
-            push_line(out, LineKind::Send(CommandWord::Execute), &contents)
-        }
-    }
-}
-
 // Adds the lines of what is shown.
 fn push_shows(out: &mut Bytes, shows: &[Show]) -> Result<(), NoMemory>
     ensures { OnOk result (Prints (show_lines shows.now) out.old.items out.new.items) }
@@ -235,7 +148,7 @@ fn push_show(out: &mut Bytes, show: &Show) -> Result<(), NoMemory>
     let start = Count(show.range.start());
     let len = Count(show.range.len());
     match show.range.space() {
-        SpaceId::Nvm(n) => push_line(out, LineKind::ShowNvm, &[small(n), start, len]),
-        SpaceId::Mem(n) => push_line(out, LineKind::ShowMem, &[small(n), start, len]),
+        SpaceId::Nvm(n) => push_line(out, LineKind::Show(SpaceKind::Nvm), &[small(n), start, len]),
+        SpaceId::Mem(n) => push_line(out, LineKind::Show(SpaceKind::Mem), &[small(n), start, len]),
     }
 }

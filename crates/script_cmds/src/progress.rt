@@ -1,28 +1,20 @@
 // What a reader of a script has to know of the lines so far: which line may follow, and how much has
 // been used of each limit.
-ghost use Rattle.std.specs.Prelude.{◌≡◌, ◌+◌, ◌&&◌, nat_lt, nat_le, Some, None, IfOk, IfSome, map, if◌then◌else◌};
+ghost use Rattle.std.specs.Prelude.{◌≡◌, ◌+◌, ◌&&◌, nat_lt, true, Some, None, if◌then◌else◌, map};
 ghost use Rattle.cp_base.specs.Configuration.{IsWithinLimits};
+ghost use Rattle.script_line.specs.Field.{IsShaped};
+ghost use Rattle.script_line.specs.Fits.{values_fit};
+ghost use Rattle.script_line.specs.Line.{fields_of};
+ghost use Rattle.script_line.specs.Values.{line_view, value_view};
 ghost use Rattle.script_cmds.specs.Fault.{judged};
-ghost use Rattle.script_cmds.specs.Progress.{advanced, is_in_order, is_start, is_after_show, is_in_part, is_within, is_within_limits, mem_follows, nvm_follows, host_follows, start};
+ghost use Rattle.script_cmds.specs.Progress.{advanced, follows, has_room, host_follows, is_after_show, is_in_order, is_in_part, is_start, namespace_follows, start};
 ghost use Rattle.script_cmds.specs.declared.progress.Stage.TheVariants as stage;
-ghost use Rattle.script_cmds.specs.Reading.{value_view};
 
-use crate::field::{FieldValue, number_at};
-use crate::limits::{bare, command_fits, shows_mem, shows_nvm, with_mem, with_nvm};
-use crate::{LineKind, TextCause};
+use crate::limits::{bare, has_bytes, with_namespace};
 use cp_base::Config;
-
-/// The most send, phase and show lines of a script.
-const MAX_SENDS: u32 = 16_384;
-
-const MAX_PHASES: u32 = 1_024;
-
-const MAX_SHOWS: u32 = 1_024;
-
-/// The largest host number and the largest command identifier.
-const MAX_HOST: u64 = 16;
-
-const MAX_CID: u64 = 65_535;
+use script_line::{
+    FieldValue, LineKind, ReadLine, ScriptLimits, SpaceKind, TextCause, VERSION_1, fits, number_at,
+};
 
 /// Where a script stands after a line.
 #[derive(Clone, Copy, Debug)]
@@ -31,16 +23,25 @@ pub enum Stage {
     AtStart,
     /// After the header.
     AfterHeader,
-    /// After the line of an NVM namespace with this number.
-    AfterNvm(u64),
-    /// After the line of a memory namespace with this number.
-    AfterMem(u64),
+    /// After the line of a namespace of this kind and number.
+    AfterNamespace(SpaceKind, u64),
     /// In a phase that has no host yet.
     InPhase,
     /// In the part of the host with this number.
     InPart(u32),
     /// After a line that shows bytes.
     AfterShow,
+}
+
+// Whether a namespace may follow one, NVM namespaces first.
+fn follows(last: SpaceKind, before: u64, kind: SpaceKind, number: u64) -> bool
+    ensures { result ≡ follows last before kind number }
+{
+    match (last, kind) {
+        (SpaceKind::Nvm, SpaceKind::Nvm) | (SpaceKind::Mem, SpaceKind::Mem) => before < number,
+        (SpaceKind::Nvm, SpaceKind::Mem) => true,
+        (SpaceKind::Mem, SpaceKind::Nvm) => false,
+    }
 }
 
 impl Stage {
@@ -51,8 +52,7 @@ impl Stage {
         match self {
             Stage::AtStart => true,
             Stage::AfterHeader
-            | Stage::AfterNvm(_)
-            | Stage::AfterMem(_)
+            | Stage::AfterNamespace(_, _)
             | Stage::InPhase
             | Stage::InPart(_)
             | Stage::AfterShow => false,
@@ -66,8 +66,7 @@ impl Stage {
             Stage::AfterShow => true,
             Stage::AtStart
             | Stage::AfterHeader
-            | Stage::AfterNvm(_)
-            | Stage::AfterMem(_)
+            | Stage::AfterNamespace(_, _)
             | Stage::InPhase
             | Stage::InPart(_) => false,
         }
@@ -80,33 +79,18 @@ impl Stage {
             Stage::InPart(_) => true,
             Stage::AtStart
             | Stage::AfterHeader
-            | Stage::AfterNvm(_)
-            | Stage::AfterMem(_)
+            | Stage::AfterNamespace(_, _)
             | Stage::InPhase
             | Stage::AfterShow => false,
         }
     }
 
-    fn nvm_follows(self, number: u64) -> bool
-        ensures { result ≡ nvm_follows self number }
+    fn namespace_follows(self, kind: SpaceKind, number: u64) -> bool
+        ensures { result ≡ namespace_follows self kind number }
     {
         match self {
             Stage::AfterHeader => true,
-            Stage::AfterNvm(before) => before < number,
-            Stage::AtStart
-            | Stage::AfterMem(_)
-            | Stage::InPhase
-            | Stage::InPart(_)
-            | Stage::AfterShow => false,
-        }
-    }
-
-    fn mem_follows(self, number: u64) -> bool
-        ensures { result ≡ mem_follows self number }
-    {
-        match self {
-            Stage::AfterHeader | Stage::AfterNvm(_) => true,
-            Stage::AfterMem(before) => before < number,
+            Stage::AfterNamespace(last, before) => follows(last, before, kind, number),
             Stage::AtStart | Stage::InPhase | Stage::InPart(_) | Stage::AfterShow => false,
         }
     }
@@ -117,11 +101,8 @@ impl Stage {
         match self {
             Stage::InPhase => true,
             Stage::InPart(before) => u64::from(before) < host,
-            Stage::AtStart
-            | Stage::AfterHeader
-            | Stage::AfterNvm(_)
-            | Stage::AfterMem(_)
-            | Stage::AfterShow => false,
+            Stage::AtStart | Stage::AfterHeader | Stage::AfterNamespace(_, _) | Stage::AfterShow =>
+                false,
         }
     }
 
@@ -131,20 +112,21 @@ impl Stage {
     {
         match kind {
             LineKind::Header => self.is_start(),
-            LineKind::Nvm => self.nvm_follows(number_at(values, 0)),
-            LineKind::Mem => self.mem_follows(number_at(values, 0)),
+            LineKind::Namespace(kind) => self.namespace_follows(kind, number_at(values, 0)),
             LineKind::Phase => !self.is_start() && !self.is_after_show(),
             LineKind::Host => self.host_follows(number_at(values, 0)),
             LineKind::Send(_) | LineKind::Take => self.is_in_part(),
-            LineKind::ShowNvm | LineKind::ShowMem => !self.is_start(),
+            LineKind::Show(_) => !self.is_start(),
         }
     }
 }
 
-/// The stage, the configuration so far, and how many send, phase and show lines there were.
+/// The stage, the limits of the script's version, the configuration so far, and how many send, phase and
+/// show lines there were.
 #[derive(Clone, Copy, Debug)]
 pub struct Progress {
     pub stage: Stage,
+    pub limits: ScriptLimits,
     pub config: Config,
     pub sends: u32,
     pub phases: u32,
@@ -159,6 +141,7 @@ impl Progress {
     {
         Progress {
             stage: Stage::AtStart,
+            limits: VERSION_1,
             config: Config::new(512, 1, 1).unwrap(),
             sends: 0,
             phases: 0,
@@ -167,27 +150,31 @@ impl Progress {
     }
 
     /// What there is after one more line, or what is wrong with its place or its limits.
-    pub fn after(&self, kind: LineKind, values: &[FieldValue]) -> Result<Progress, TextCause>
-        requires { IsWithinLimits self.now.config }
-        ensures judged { result ≡ judged self.now (record { kind = kind; values = map value_view values.now }) }
-        ensures limits { IfOk result (λ p. IsWithinLimits p.config) }
+    pub fn after(&self, line: &ReadLine) -> Result<Progress, TextCause>
+        requires limits { IsWithinLimits self.now.config }
+        requires shape { IsShaped (fields_of line.now.kind) (line_view line.now).values }
+        ensures { result ≡ judged self.now (line_view line.now) }
     {
-        if !self.stage.is_in_order(kind, values) {
+        if !self.stage.is_in_order(line.kind, line.values.as_slice()) {
             return Err(TextCause::Order);
         }
-        match self.advanced(kind, values) {
+        if !fits(line) {
+            return Err(TextCause::Limit);
+        }
+        match self.advanced(line.kind, line.values.as_slice()) {
             Some(after) => Ok(after),
             None => Err(TextCause::Limit),
         }
     }
 
-    // What there is after one more line that keeps its limits.
+    // What there is after one more line, for which there is room.
     fn advanced(&self, kind: LineKind, values: &[FieldValue]) -> Option<Progress>
-        requires { IsWithinLimits self.now.config }
-        ensures value { result ≡ (if is_within_limits self.now kind (map value_view values.now)
+        requires limits { IsWithinLimits self.now.config }
+        requires shape { IsShaped (fields_of kind) (map value_view values.now) }
+        requires fits { values_fit (fields_of kind) (map value_view values.now) ≡ true }
+        ensures { result ≡ (if has_room self.now kind (map value_view values.now)
             then Some (advanced self.now kind (map value_view values.now))
             else None) }
-        ensures limits { IfSome result (λ p. IsWithinLimits p.config) }
     {
         let first = number_at(values, 0);
         let second = number_at(values, 1);
@@ -195,32 +182,32 @@ impl Progress {
         match kind {
             LineKind::Header => Some(Progress {
                 stage: Stage::AfterHeader,
+                limits: VERSION_1,
                 config: bare(first, second, third)?,
                 ..*self
             }),
-            LineKind::Nvm => Some(Progress {
-                stage: Stage::AfterNvm(first),
-                config: with_nvm(&self.config, first, second)?,
-                ..*self
-            }),
-            LineKind::Mem => Some(Progress {
-                stage: Stage::AfterMem(first),
-                config: with_mem(&self.config, first, second)?,
+            LineKind::Namespace(kind) => Some(Progress {
+                stage: Stage::AfterNamespace(kind, first),
+                config: with_namespace(&self.config, kind, first, second)?,
                 ..*self
             }),
             LineKind::Phase => self.with_phase(),
-            LineKind::Host => self.with_host(first),
-            LineKind::Send(word) => self.with_send(first, command_fits(word, values)),
-            LineKind::Take => self.with_take(first),
-            LineKind::ShowNvm => self.with_show(shows_nvm(&self.config, first, second, third)),
-            LineKind::ShowMem => self.with_show(shows_mem(&self.config, first, second, third)),
+            LineKind::Host => Some(Progress {
+                stage: Stage::InPart(first as u32),
+                ..*self
+            }),
+            LineKind::Send(_) => self.with_send(),
+            LineKind::Take => Some(*self),
+            LineKind::Show(kind) => {
+                self.with_show(has_bytes(&self.config, kind, first, second, third))
+            }
         }
     }
 
     fn with_phase(&self) -> Option<Progress>
-        ensures { result ≡ (if nat_lt self.now.phases 1024 then Some (record self.now { stage = stage.InPhase; phases = self.now.phases + 1 }) else None) }
+        ensures { result ≡ (if nat_lt self.now.phases self.now.limits.phases then Some (record self.now { stage = stage.InPhase; phases = self.now.phases + 1 }) else None) }
     {
-        if self.phases >= MAX_PHASES {
+        if self.phases >= self.limits.phases {
             return None;
         }
         Some(Progress {
@@ -230,22 +217,10 @@ impl Progress {
         })
     }
 
-    fn with_host(&self, host: u64) -> Option<Progress>
-        ensures { result ≡ (if is_within 1 16 host then Some (record self.now { stage = stage.InPart host }) else None) }
+    fn with_send(&self) -> Option<Progress>
+        ensures { result ≡ (if nat_lt self.now.sends self.now.limits.sends then Some (record self.now { sends = self.now.sends + 1 }) else None) }
     {
-        if host == 0 || host > MAX_HOST {
-            return None;
-        }
-        Some(Progress {
-            stage: Stage::InPart(host as u32),
-            ..*self
-        })
-    }
-
-    fn with_send(&self, cid: u64, fits: bool) -> Option<Progress>
-        ensures { result ≡ (if nat_lt self.now.sends 16384 && (nat_le cid 65535 && fits) then Some (record self.now { sends = self.now.sends + 1 }) else None) }
-    {
-        if self.sends >= MAX_SENDS || cid > MAX_CID || !fits {
+        if self.sends >= self.limits.sends {
             return None;
         }
         Some(Progress {
@@ -254,19 +229,10 @@ impl Progress {
         })
     }
 
-    fn with_take(&self, cid: u64) -> Option<Progress>
-        ensures { result ≡ (if nat_le cid 65535 then Some self.now else None) }
+    fn with_show(&self, are_there: bool) -> Option<Progress>
+        ensures { result ≡ (if nat_lt self.now.shows self.now.limits.shows && are_there then Some (record self.now { stage = stage.AfterShow; shows = self.now.shows + 1 }) else None) }
     {
-        if cid > MAX_CID {
-            return None;
-        }
-        Some(*self)
-    }
-
-    fn with_show(&self, fits: bool) -> Option<Progress>
-        ensures { result ≡ (if nat_lt self.now.shows 1024 && fits then Some (record self.now { stage = stage.AfterShow; shows = self.now.shows + 1 }) else None) }
-    {
-        if self.shows >= MAX_SHOWS || !fits {
+        if self.shows >= self.limits.shows || !are_there {
             return None;
         }
         Some(Progress {

@@ -1,15 +1,18 @@
 // Texts that are no scripts, and one that is.
 use super::*;
 use cp_base::{
-    ByteRange, Bytes, Command, Config, CopySource, MemRange, RangeList, Sequence, SourceList,
-    SpaceId,
+    Access, ByteRange, Bytes, Command, Config, CopySource, MemRange, RangeList, Sequence,
+    SourceList, SpaceId,
 };
+use script_line::TextCause;
 use std::alloc::Global;
 use std::sync::Arc;
 use std::test::Fail;
 
 // The texts of the header and of what stands before most lines.
 const FRONT: &str = "nvmecp 1 block=512 depth=16 budget=1000\nmem 1 bytes=64\nphase\nhost 1\n";
+
+const HEADER: &str = "nvmecp 1 block=512 depth=1 budget=1\n";
 
 // Parses the front and more lines, which are short.
 fn parsed(alloc: Global, front: &str, more: &str) -> Result<Result<Script, ParseEnd>, Fail> {
@@ -119,6 +122,39 @@ fn faults(rt: HostRuntime) -> Result<(), Fail> {
         (FRONT, "phase\nhost 0\n", 6, TextCause::Limit),
         (FRONT, "host 17\n", 5, TextCause::Limit),
         (FRONT, "mem 2 bytes=1\n", 5, TextCause::Order),
+        (HEADER, "nvm 1 blocks=32769\n", 2, TextCause::Limit),
+        (HEADER, "nvm 1 blocks=0\n", 2, TextCause::Limit),
+        (HEADER, "nvm 9 blocks=1\n", 2, TextCause::Limit),
+        (
+            HEADER,
+            "nvm 2 blocks=1\nnvm 2 blocks=1\n",
+            3,
+            TextCause::Order,
+        ),
+        (
+            HEADER,
+            "mem 2 bytes=1\nnvm 3 blocks=1\n",
+            3,
+            TextCause::Order,
+        ),
+        (
+            HEADER,
+            "mem 1 bytes=1\nnvmecp 1 block=512 depth=1 budget=1\n",
+            3,
+            TextCause::Order,
+        ),
+        (
+            HEADER,
+            "nvm 1 blocks=1\nshow nvm 1 at=1 len=512\n",
+            3,
+            TextCause::Limit,
+        ),
+        (
+            HEADER,
+            "nvm 1 blocks=1\nshow mem 1 at=0 len=1\n",
+            3,
+            TextCause::Limit,
+        ),
         (FRONT, "show mem 1 at=60 len=5\n", 5, TextCause::Limit),
         (FRONT, "show mem 2 at=0 len=1\n", 5, TextCause::Limit),
         (FRONT, "show mem 1 at=0 len=0\n", 5, TextCause::Limit),
@@ -146,6 +182,7 @@ fn faults(rt: HostRuntime) -> Result<(), Fail> {
 fn scripts(rt: HostRuntime) -> Result<(), Fail> {
     let table = [
         "nvmecp 1 block=4096 depth=256 budget=10000000\n",
+        "nvmecp 1 block=512 depth=1 budget=1\nnvm 1 blocks=32768\nnvm 3 blocks=1\nmem 2 bytes=1\nshow nvm 3 at=511 len=1\n",
         "nvmecp 1 block=512 depth=1 budget=1\nmem 8 bytes=16777216\nphase\nphase\nhost 16\ntake 65535\nshow mem 8 at=16769024 len=8192\n",
         "nvmecp 1 block=512 depth=1 budget=1\nphase\nhost 1\nsend 0 memread ns=4294967295 at=18446744073709551615 len=0\nsend 1 memwrite ns=0 at=0 data=\n",
     ];
@@ -194,8 +231,13 @@ fn add_programs(alloc: Global, items: &mut Vec<Item>) -> Result<(), Fail> {
         ns: 1,
         at: 2,
         len: 3,
+        access: Access::ReadWrite,
     };
-    let ranges = RangeList::new(alloc, &[range, range]).ok_or("no list")?;
+    let constant = MemRange {
+        access: Access::ReadOnly,
+        ..range
+    };
+    let ranges = RangeList::new(alloc, &[range, constant]).ok_or("no list")?;
     let bytes = Bytes::from_slice(alloc, &[149])?;
     add(alloc, items, Command::SetCreate { ranges })?;
     add(alloc, items, Command::SetDelete { set })?;
@@ -265,7 +307,7 @@ fn each_line_is_printed(rt: HostRuntime) -> Result<(), Fail> {
         send 7 memread ns=1 at=0 len=2\nsend 7 memwrite ns=1 at=0 data=\n\
         send 7 memfill ns=1 at=0 len=2 value=255\n\
         send 7 memcopy ns=1 at=0 from=n2:0:18446744073709551615\n\
-        send 7 setcreate ranges=1:2:3,1:2:3\nsend 7 setdelete set=4294967295\n\
+        send 7 setcreate ranges=1:2:3,1:2:3:r\nsend 7 setdelete set=4294967295\n\
         send 7 load slot=1 size=8 at=0 data=95\nsend 7 unload slot=1\n\
         send 7 activate slot=1\nsend 7 deactivate slot=1\n\
         send 7 execute slot=1 set=4294967295 p1=3 p2=4 budget=5\ntake 7\n\
@@ -300,5 +342,19 @@ fn counts(rt: HostRuntime) -> Result<(), Fail> {
         };
         assert_eq!(rt; fault, Some(wanted), "{line}");
     }
+    Ok(())
+}
+
+#[test]
+fn long_scripts_are_read_and_printed(rt: HostRuntime) -> Result<(), Fail> {
+    let mut text = Vec::from_slice(rt.alloc(), FRONT.as_bytes())?;
+    for _ in 0..16_382 {
+        text.extend_from_slice(b"send 65535 memwrite ns=1 at=0 data=00\ntake 65535\n")?;
+    }
+    let script = outcome(rt.alloc(), text.as_slice())?
+        .ok()
+        .ok_or("no script")?;
+    let printed = print(rt.alloc(), &script)?;
+    assert!(rt; printed.as_slice() == text.as_slice(), "32,768 lines");
     Ok(())
 }

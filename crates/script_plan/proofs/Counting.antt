@@ -2,7 +2,7 @@
 use Rattle.std.proofs.Common.{◌≡◌, ℕ, ◌+◌, ◌≤◌, ◌==◌, not, Bool, true, false, List, [], ◌∷◌, ◌++◌, suc, cond, filter, length, arith, refl, sym, ◌∙◌, ap, length-append}
 use Rattle.std.specs.Prelude.{count_by, if◌then◌else◌}
 use Rattle.std.proofs.lemmas.List.Sums.{count_by-le-length, sum_by-cons}
-use Rattle.script_cmds.specs.declared.kind.LineKind.{LineKind}
+use Rattle.script_line.specs.declared.kind.LineKind.{LineKind}
 use Rattle.script_cmds.specs.Text.{numbers_line, size_lines, configuration_lines, part_lines, item_lines, phase_lines, show_lines, lines_of}
 use Rattle.script_cmds.specs.declared.item.Item.{Item}
 use Rattle.script_cmds.specs.declared.item.HostPart.{HostPart}
@@ -11,7 +11,7 @@ use Rattle.script_cmds.specs.declared.script.Script.{Script}
 use Rattle.script_cmds.specs.declared.item.Item.TheVariants as item
 use Rattle.history_model.specs.Plan.{lines_of_parts}
 use Rattle.history_model.specs.Sent.{Sent, Waiting, ordinals_of, next_ordinal, sends_of_items, sends_of_parts, sends_of_phases, sends_of}
-use Rattle.script_plan.specs.Counts.{sends_in_items, sends_in_parts, sends_in_phases, is_send}
+use Rattle.script_cmds.specs.Counts.{sends_in_items, sends_in_parts, sends_in_phases, is_send}
 
 -- one size more
 size-step : (kind : LineKind) (number size : ℕ) (sizes : List ℕ) (none : Bool) (count : ℕ) → length (size_lines kind (number + 1) sizes) ≡ count

@@ -9,8 +9,8 @@ use Rattle.script_cmds.specs.declared.item.Item.TheVariants as item
 use Rattle.script_cmds.specs.declared.item.HostPart.{HostPart}
 use Rattle.script_cmds.specs.declared.item.Phase.{Phase}
 use Rattle.history_model.specs.Plan.{PlanFault, QueueFull, CidBusy, NotOutstanding, is_outstanding, planned_items, planned_parts, planned_hosts, planned_phases, lines_of_parts, then_plan, both_planned}
-use Rattle.history_model.specs.Plain.{hosts_of}
-use Rattle.history_model.specs.Sent.{Sent, Waiting, ordinals_of, next_ordinal, sends_of_items, sends_of_parts, sends_of_phases}
+use Rattle.history_model.specs.Plain.{hosts_by_phase}
+use Rattle.history_model.specs.Sent.{Sent, named_in, Waiting, ordinals_of, next_ordinal, sends_of_items, sends_of_parts, sends_of_phases}
 use Rattle.history_model.specs.Rules.{KeepsQueue, without}
 use Rattle.history_model.proofs.Every.{every-All, every-weaker, every-filter, Pairwise, pairwise-append}
 use Rattle.script_plan.proofs.Alike.{KeepsPart}
@@ -103,7 +103,7 @@ items-keep depth line outstanding (item.Send cid command ∷ items) xs distinct 
         subst P front.2 (
           (below, not-contained cid outstanding free, rest.0),
           (λ host phase ordinal waiting taken.
-              let first : Sent = record { host = host; ordinal = ordinal; cid = cid; phase = phase; command = command.value; taken = taken } in
+              let first : Sent = record { host = host; ordinal = ordinal; cid = cid; phase = phase; command = command.value; taken = taken; named = named_in waiting command.value } in
               let here : Waiting = record { cid = cid; ordinal = ordinal } in
               ap (λ l. first ∷ l) (rest.1 host phase (ordinal + 1) (waiting ++ here ∷ []) taken)),
         )
@@ -179,7 +179,7 @@ hosts-keep depth line (part ∷ parts) xs is = (some-planned depth (line + 1) pa
 -- phases that keep the rules, of the same hosts, which send the same commands
 pub record PhasesKept (depth : ℕ) (xs phases : List Phase) : Type 0 where
   pub rules : AllByRecursion (IsKeptPhase depth) xs
-  pub hosts : hosts_of xs ≡ hosts_of phases
+  pub hosts : hosts_by_phase xs ≡ hosts_by_phase phases
   pub sends : (phase : ℕ) (earlier : List Sent) → sends_of_phases phase earlier xs ≡ sends_of_phases phase earlier phases
 
 -- every plan keeps the rules, and sends what the script sends
@@ -196,7 +196,7 @@ phases-keep depth line (phase ∷ phases) xs is =
     let P : List Phase → Type 0 = λ ys. PhasesKept depth ys (phase ∷ phases) in
     subst P split.4 (record {
       rules = (record { acted = first.0; queues = first.1.queues }, rest.rules);
-      hosts = ap (λ l. l ∷ hosts_of split.1) first.1.hosts ∙ ap (λ l. part_hosts phase.hosts ∷ l) rest.hosts;
+      hosts = ap (λ l. l ∷ hosts_by_phase split.1) first.1.hosts ∙ ap (λ l. part_hosts phase.hosts ∷ l) rest.hosts;
       sends = λ number earlier.
           ap (λ s. sends_of_phases (number + 1) s split.1) (first.1.sends number earlier)
           ∙ rest.sends (number + 1) (sends_of_parts number earlier phase.hosts);

@@ -1,25 +1,31 @@
 -- A whole plan, from what its meaning is.
-use Rattle.std.proofs.Common.{◌≡◌, ℕ, List, [], ◌∷◌, map, length, Result, Ok, Err, refl, sym, ◌∙◌, ap, arith}
+use Rattle.std.proofs.Common.{◌≡◌, ℕ, ◌≤◌, List, [], ◌∷◌, map, length, Result, Ok, Err, refl, sym, ◌∙◌, ap, subst, arith}
 use Rattle.std.specs.List.{AllByRecursion, All}
 use Rattle.std.proofs.lemmas.List.{length-map}
 use Rattle.script_cmds.specs.declared.item.HostPart.{HostPart}
 use Rattle.script_cmds.specs.declared.item.Phase.{Phase}
-use Rattle.history_model.specs.Plain.{PlainPart, hosts_of, plain_part, plain_parts, plain_phase, plain_phases}
+use Rattle.history_model.specs.Plain.{PlainPart, hosts_by_phase, plain_part, plain_parts, plain_phase, plain_phases}
 use Rattle.history_model.specs.Plan.{PlanFault, planned_phases}
-use Rattle.history_model.specs.Rules.{KeepsRules}
+use Rattle.cp_base.specs.declared.limits.TheConstants.{MAX_HOSTS}
+use Rattle.script_cmds.specs.Hosts.{AscendFrom, HaveHosts, hosts_of}
+use Rattle.history_model.specs.Rules.{KeepsQueues, KeepsRules}
 use Rattle.history_model.specs.Sent.{sends_of}
-use Rattle.history_model.proofs.Every.{every-All}
-use Rattle.script_plan.specs.Counts.{sends_in_phases}
+use Rattle.history_model.proofs.Every.{every-All, every-of-All}
+use Rattle.script_cmds.specs.Counts.{sends_in_phases}
 use Rattle.script_plan.specs.Meant.{meant}
 use Rattle.script_plan.proofs.Alike.{KeepsPart, same-sends, parts-keep-same}
 use Rattle.script_plan.proofs.Counting.{length-sends_of}
 use Rattle.script_plan.proofs.Keeping.{IsKeptPhase, phases-keep}
 
+-- the hosts of a phase
+abbrev HasHosts : List ℕ → Type 0
+HasHosts hosts = AscendFrom 0 hosts × All (λ host. host ≤ MAX_HOSTS) hosts
+
 as-long : (xs ys : List HostPart) → plain_parts xs ≡ plain_parts ys → length xs ≡ length ys
 as-long xs ys same = sym (length-map xs plain_part) ∙ ap length same ∙ length-map ys plain_part
 
 -- a plan that says the same keeps the rules too
-phases-keep-same : (depth : ℕ) (xs ys : List Phase) → plain_phases xs ≡ plain_phases ys → AllByRecursion (IsKeptPhase depth) xs → AllByRecursion (KeepsRules depth) ys
+phases-keep-same : (depth : ℕ) (xs ys : List Phase) → plain_phases xs ≡ plain_phases ys → AllByRecursion (IsKeptPhase depth) xs → AllByRecursion (KeepsQueues depth) ys
 phases-keep-same depth [] [] same keeps = tt
 phases-keep-same depth [] (y ∷ ys) same keeps = cc
 phases-keep-same depth (x ∷ xs) [] same keeps = cc
@@ -50,10 +56,10 @@ given-of depth line phases plan means = go (planned_phases depth line phases) re
     go (Ok xs) is same = record { given = xs; is = is; same = cc }
     go (Err f) is same = cc
 
-pub keeps-rules : (depth line : ℕ) (phases plan : List Phase) → Means depth line phases plan → All (KeepsRules depth) plan
-keeps-rules depth line phases plan means =
+pub keeps-queues : (depth line : ℕ) (phases plan : List Phase) → Means depth line phases plan → All (KeepsQueues depth) plan
+keeps-queues depth line phases plan means =
     let g = given-of depth line phases plan means in
-    every-All (KeepsRules depth) plan (phases-keep-same depth g.given plan g.same (phases-keep depth line phases g.given g.is).rules)
+    every-All (KeepsQueues depth) plan (phases-keep-same depth g.given plan g.same (phases-keep depth line phases g.given g.is).rules)
 
 -- it sends what the script sends
 pub sends-same : (depth line : ℕ) (phases plan : List Phase) → Means depth line phases plan → sends_of plan ≡ sends_of phases
@@ -73,17 +79,35 @@ sends-counted depth line phases plan means = sym (length-sends_of phases) ∙ ap
 plain_hosts : List (List PlainPart) → List (List ℕ)
 plain_hosts phases = map (λ parts. map (λ (part : PlainPart). part.host) parts) phases
 
-hosts-plain : (phases : List Phase) → hosts_of phases ≡ plain_hosts (plain_phases phases)
+hosts-plain : (phases : List Phase) → hosts_by_phase phases ≡ plain_hosts (plain_phases phases)
 unfolding plain_hosts
 hosts-plain [] = refl
-hosts-plain (phase ∷ phases) = ap (λ l. l ∷ hosts_of phases) (parts-plain phase.hosts) ∙ ap (λ l. map (λ (part : PlainPart). part.host) (plain_parts phase.hosts) ∷ l) (hosts-plain phases)
+hosts-plain (phase ∷ phases) = ap (λ l. l ∷ hosts_by_phase phases) (parts-plain phase.hosts) ∙ ap (λ l. map (λ (part : PlainPart). part.host) (plain_parts phase.hosts) ∷ l) (hosts-plain phases)
   where
     parts-plain : (parts : List HostPart) → map (λ (part : HostPart). part.host) parts ≡ map (λ (part : PlainPart). part.host) (plain_parts parts)
     parts-plain [] = refl
     parts-plain (part ∷ parts) = ap (λ l. part.host ∷ l) (parts-plain parts)
 
 -- the same hosts act in it
-pub hosts-same : (depth line : ℕ) (phases plan : List Phase) → Means depth line phases plan → hosts_of plan ≡ hosts_of phases
+pub hosts-same : (depth line : ℕ) (phases plan : List Phase) → Means depth line phases plan → hosts_by_phase plan ≡ hosts_by_phase phases
 hosts-same depth line phases plan means =
     let g = given-of depth line phases plan means in
     hosts-plain plan ∙ ap plain_hosts (sym g.same) ∙ sym (hosts-plain g.given) ∙ (phases-keep depth line phases g.given g.is).hosts
+
+-- hosts that are those of other phases, and queues that are kept, keep the rules
+with-hosts : (depth : ℕ) (xs ys : List Phase) → hosts_by_phase ys ≡ hosts_by_phase xs → AllByRecursion (λ (phase : Phase). HasHosts (hosts_of phase.hosts)) xs
+    → AllByRecursion (KeepsQueues depth) ys → AllByRecursion (KeepsRules depth) ys
+with-hosts depth xs [] same hosts queues = tt
+with-hosts depth [] (y ∷ ys) same hosts queues = cc
+with-hosts depth (x ∷ xs) (y ∷ ys) same hosts queues =
+    let first : hosts_of y.hosts ≡ hosts_of x.hosts = cc in
+    let rest : hosts_by_phase ys ≡ hosts_by_phase xs = cc in
+    let here : HasHosts (hosts_of y.hosts) = subst HasHosts (sym first) hosts.0 in
+    (record { queues = queues.0; ascend = here.0; numbers = here.1 }, with-hosts depth xs ys rest hosts.1 queues.1)
+
+-- the plan of phases whose hosts ascend within their numbers keeps the rules
+pub keeps-rules : (depth line : ℕ) (phases plan : List Phase) → Means depth line phases plan → HaveHosts phases → All (KeepsRules depth) plan
+keeps-rules depth line phases plan means hosts =
+    let queues = every-of-All (KeepsQueues depth) plan (keeps-queues depth line phases plan means) in
+    every-All (KeepsRules depth) plan
+    (with-hosts depth phases plan (hosts-same depth line phases plan means) (every-of-All (λ (phase : Phase). HasHosts (hosts_of phase.hosts)) phases hosts) queues)

@@ -1,4 +1,3 @@
 pub mod Cause
-pub mod Counts
 pub mod Meant
 pub mod Step

@@ -2,7 +2,7 @@
 ghost use Rattle.std.specs.Prelude.{◌≡◌, ◌+◌, ◌<◌, ◌≤◌, ◌^◌, ◌==◌, not, length, count_by};
 ghost use Rattle.script_cmds.specs.Text.{configuration_lines, phase_lines};
 ghost use Rattle.history_model.specs.Plan.{lines_of_parts};
-ghost use Rattle.script_plan.specs.Counts.{is_send, sends_in_items, sends_in_parts, sends_in_phases};
+ghost use Rattle.script_cmds.specs.Counts.{is_send, sends_in_items, sends_in_parts, sends_in_phases};
 
 use cp_base::Config;
 use script_cmds::{HostPart, Item, Phase};

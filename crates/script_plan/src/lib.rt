@@ -3,10 +3,12 @@
 
 mod answer;
 mod count;
+mod laws;
 mod outstanding;
 mod planning;
 #[cfg(test)]
 mod tests;
 
 pub use answer::{Plan, PlanCause, PlanEnd, PlanFault};
+pub use laws::{lines_tell_the_fault, scripts_have_sized_histories};
 pub use planning::plan;

@@ -1,9 +1,10 @@
 // The plan of a script.
 ghost use Rattle.std.specs.Prelude.{◌≡◌, ◌+◌, ◌++◌, ◌<◌, ◌≤◌, ◌^◌, [], map, Ok, Err, All, IfOk, IfErr, OnOk, length};
+ghost use Rattle.script_cmds.specs.Kept.{KeepsOrderAndLimits};
 ghost use Rattle.script_cmds.specs.Text.{lines_of, phase_lines};
-ghost use Rattle.history_model.specs.Plain.{hosts_of, Takes, plain_item, plain_items, plain_part, plain_parts, plain_phase, plain_phases};
+ghost use Rattle.history_model.specs.Plain.{hosts_by_phase, Takes, plain_item, plain_items, plain_part, plain_parts, plain_phase, plain_phases};
 ghost use Rattle.history_model.specs.Plan.{plan_of, planned_items, planned_parts, planned_hosts, planned_phases, lines_of_parts};
-ghost use Rattle.history_model.specs.Rules.{KeepsRules};
+ghost use Rattle.history_model.specs.Rules.{KeepsQueues, KeepsRules};
 ghost use Rattle.history_model.specs.Sent.{sends_of};
 ghost use Rattle.script_plan.specs.Cause.{breach_of, ForFault};
 ghost use Rattle.script_plan.specs.Meant.{meant};
@@ -176,9 +177,10 @@ pub fn plan(alloc: Global, script: &Script) -> Result<Plan, PlanEnd>
     // The commands, by name, are those of the definition's plan and of the script, host by host.
     ensures given { IfOk result (λ plan. (given : _) → plan_of script.now ≡ Ok given → sends_of given ≡ sends_of plan.phases) }
     ensures sends { IfOk result (λ plan. sends_of plan.phases ≡ sends_of script.now.phases) }
-    ensures hosts { IfOk result (λ plan. hosts_of plan.phases ≡ hosts_of script.now.phases) }
+    ensures hosts { IfOk result (λ plan. hosts_by_phase plan.phases ≡ hosts_by_phase script.now.phases) }
     ensures commands { IfOk result (λ plan. plan.commands ≡ length (sends_of plan.phases)) }
-    ensures rules { IfOk result (λ plan. All (KeepsRules script.now.config.depth) plan.phases) }
+    ensures queues { IfOk result (λ plan. All (KeepsQueues script.now.config.depth) plan.phases) }
+    ensures rules { KeepsOrderAndLimits script.now → IfOk result (λ plan. All (KeepsRules script.now.config.depth) plan.phases) }
 {
     let phases = script.phases.as_slice();
     let line = configuration_lines(&script.config) + 1;

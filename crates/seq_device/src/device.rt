@@ -1,50 +1,39 @@
 // The sequential device.
-ghost use Rattle.std.specs.Prelude.{◌≡◌, ◌+◌, ◌≤◌, IsTrue, length, slice_get, unwrap_or, IfOk};
+ghost use Rattle.std.specs.Prelude.{◌≡◌, ◌≢◌, ◌⊎◌, ◌+◌, ◌≤◌, replicate, IsTrue, length, slice_get, unwrap_or, IfOk};
 ghost use Rattle.cp_base.specs.Configuration.{size_of};
 ghost use Rattle.cp_base.specs.Answer.{answer_of, only_status};
-ghost use Rattle.cp_base.specs.Built.{is_built};
 ghost use Rattle.cp_base.specs.Contents.{bytes_in, bytes_of};
+ghost use Rattle.built_commands.specs.Built.{is_built};
 ghost use Rattle.device_model.specs.State.{opening};
 ghost use Rattle.device_model.specs.Step.{DeviceStep};
+ghost use Rattle.seq_device.specs.Standing.{IsCarriedOut, IsDone, was_read, with_put, works_in_place};
 
-use cp_base::{ByteRange, Bytes, Command, Config, NoMemory, Reply, SpaceId, Status};
-use slm_bytes::{Flat, bytes_to_range};
+use crate::replies::{only, read};
+use cp_base::{ByteRange, Bytes, Command, Config, MAX_TRANSFER, NoMemory, Reply, SpaceId, Status};
+use slm_bytes::Flat;
 use std::alloc::Global;
 use std::marker::Model;
-
-/// The most bytes that a host moves by one command.
-pub const MAX_TRANSFER: u64 = 8192;
 
 /// A device that carries out one command after the other. Contracts see its configuration and its
 /// state, and nothing of how the bytes are kept.
 #[derive(Debug, Drop)]
 pub struct SeqDevice {
-    alloc: Global,
-    config: Config,
-    flat: Flat,
+    pub(crate) alloc: Global,
+    pub(crate) config: Config,
+    pub(crate) flat: Flat,
 }
 
 impl Model for SeqDevice {
     ghost use Rattle.std.specs.Prelude.{replicate, []};
+    ghost use Rattle.cp_base.specs.declared.limits.TheConstants.{SLOTS};
     ghost use Rattle.device_model.specs.State.{Empty};
     ghost use Rattle.seq_device.specs.Standing.{Standing, HasSizes};
 
     ghost Value = { Standing };
 
-    ghost view = { λ d. record { config = d.config; state = record { contents = d.flat; slots = replicate 64 Empty; sets = [] } } };
+    ghost view = { λ d. record { config = d.config; state = record { contents = d.flat; slots = replicate SLOTS Empty; sets = [] } } };
 
     ghost invariant = { λ d. HasSizes d.config d.flat };
-}
-
-// An answer of a status alone.
-fn only(alloc: Global, status: Status) -> Reply
-    ensures { answer_of result ≡ only_status status }
-{
-    Reply {
-        status,
-        result: 0,
-        bytes: Bytes::new(alloc),
-    }
 }
 
 impl SeqDevice {
@@ -60,52 +49,55 @@ impl SeqDevice {
         })
     }
 
+    #[tactic(auto, using(crate::proofs::Withdrawn::outcome_other))]
     /// Carries out a command. Where it needs memory that is not there, the reply is `NoMemory` and
     /// nothing is changed.
     pub fn step(&mut self, command: &Command) -> Reply
         requires { IsTrue (is_built command.now) }
         ensures step { DeviceStep self.old.config self.old.state command.now (answer_of result) self.new.state }
+        ensures carried { IsCarriedOut self.old command.now (answer_of result) self.new }
+        ensures in_place { IsTrue (works_in_place command.now) → IsDone self.old command.now (answer_of result) self.new }
+        ensures not_withdrawn { result.status ≢ Status.Aborted }
         ensures config { self.new.config ≡ self.old.config }
-        ensures short { length result.bytes.items ≤ 8192 }
+        ensures short { length result.bytes.items ≤ MAX_TRANSFER }
     {
         match command {
+            Command::NvmRead { ns, lba, count } => self.read_blocks(*ns, *lba, *count),
+            Command::NvmWrite { ns, lba, bytes } => self.write_blocks(*ns, *lba, bytes),
+            Command::NvmZeroes { ns, lba, count } => self.zero_blocks(*ns, *lba, *count),
+            Command::NvmCopy { .. } | Command::MemCopy { .. } => self.copy(command),
             Command::MemRead { ns, at, len } => self.read_memory(*ns, *at, *len),
             Command::MemWrite { ns, at, bytes } => self.write_memory(*ns, *at, bytes),
+            Command::MemFill { ns, at, len, value } => self.fill_memory(*ns, *at, *len, *value),
             _ => unreachable!(),
         }
     }
 
-    // Reads bytes of a memory namespace.
-    fn read_memory(&self, ns: u32, at: u64, len: u64) -> Reply
-        ensures step { DeviceStep self.now.config self.now.state (Command.MemRead ns at len) (answer_of result) self.now.state }
-        ensures short { length result.bytes.items ≤ 8192 }
+    // Puts bytes over those of a range, which the namespace has by the configuration.
+    pub(crate) fn patch(&mut self, range: &ByteRange, bytes: &Bytes)
+        requires inside { range.now.start + range.now.len ≤ unwrap_or (size_of self.old.config range.now.space) 0 }
+        requires length { length bytes.now.items ≡ range.now.len }
+        ensures { self.new ≡ with_put self.old range.now.space range.now.start bytes.now.items }
     {
-        let range = match bytes_to_range(&self.config, ns, at, len, MAX_TRANSFER) {
-            Ok(range) => range,
-            Err(status) => return only(self.alloc, status),
-        };
-        match self.flat.piece(&range) {
-            Ok(bytes) => Reply {
-                status: Status::Ok,
-                result: 0,
-                bytes,
-            },
-            Err(NoMemory) => only(self.alloc, Status::NoMemory),
-        }
+        self.flat.patch(range, bytes);
     }
 
-    // Writes bytes of a memory namespace.
-    fn write_memory(&mut self, ns: u32, at: u64, bytes: &Bytes) -> Reply
-        ensures step { DeviceStep self.old.config self.old.state (Command.MemWrite ns at bytes.now) (answer_of result) self.new.state }
-        ensures config { self.new.config ≡ self.old.config }
-        ensures short { length result.bytes.items ≤ 8192 }
+    // Puts the same byte over those of a range, which the namespace has by the configuration.
+    pub(crate) fn fill(&mut self, range: &ByteRange, value: u8)
+        requires { range.now.start + range.now.len ≤ unwrap_or (size_of self.old.config range.now.space) 0 }
+        ensures { self.new ≡ with_put self.old range.now.space range.now.start (replicate range.now.len value) }
     {
-        match bytes_to_range(&self.config, ns, at, bytes.len(), MAX_TRANSFER) {
-            Ok(range) => {
-                self.flat.patch(&range, bytes);
-                only(self.alloc, Status::Ok)
-            }
-            Err(status) => only(self.alloc, status),
+        self.flat.fill(range, value);
+    }
+
+    // The bytes of a range, which the namespace has by the configuration, or that there is no memory for them.
+    pub(crate) fn read(&self, range: &ByteRange) -> Reply
+        requires { range.now.start + range.now.len ≤ unwrap_or (size_of self.now.config range.now.space) 0 }
+        ensures { (answer_of result ≡ was_read self.now.state.contents range.now) ⊎ (answer_of result ≡ only_status Status.NoMemory) }
+    {
+        match self.flat.piece(range) {
+            Ok(bytes) => read(bytes),
+            Err(NoMemory) => only(self.alloc, Status::NoMemory),
         }
     }
 

@@ -1,8 +1,12 @@
 //! The sequential device: it carries out commands one after the other, and is what every other driver is measured by.
 #![tactic(auto)]
 
+mod blocks;
+mod copies;
 mod device;
+mod memory;
+mod replies;
 #[cfg(test)]
 mod tests;
 
-pub use device::{MAX_TRANSFER, SeqDevice};
+pub use device::SeqDevice;

@@ -1,6 +1,6 @@
 // What no clause says: that calls succeed where there is memory, and worked examples.
 use crate::SeqDevice;
-use cp_base::{Bytes, Command, Config, SpaceId, Status};
+use cp_base::{Bytes, Command, Config, CopySource, SourceList, SpaceId, Status};
 use std::alloc::Global;
 
 // A device with memory namespace 1 of so many bytes.
@@ -60,6 +60,92 @@ fn reads_give_what_was_written(rt: HostRuntime) {
             read(rt.alloc(), len),
             Some((status, count, last)),
             "{len} bytes"
+        );
+    }
+}
+
+// What a copy to place `at` answers after `000102030405` was written at place 0, and the bytes at 8 and 15.
+fn copy(
+    alloc: Global,
+    at: u64,
+    sources: &[CopySource],
+) -> Option<(Status, Option<u8>, Option<u8>)> {
+    let mut device = device(alloc, 16)?;
+    let bytes = Bytes::from_slice(alloc, &[0, 1, 2, 3, 4, 5]).ok()?;
+    let _ = device.step(&Command::MemWrite {
+        ns: 1,
+        at: 0,
+        bytes,
+    });
+    let from = SourceList::new(alloc, sources)?;
+    let reply = device.step(&Command::MemCopy { ns: 1, at, from });
+    let space = SpaceId::Mem(1);
+    Some((reply.status, device.byte(space, 8), device.byte(space, 15)))
+}
+
+#[test]
+fn copies_read_the_old_bytes(rt: HostRuntime) {
+    let part = |at, len| CopySource::Mem { ns: 1, at, len };
+    for (at, sources, status, first, last) in [
+        (
+            4,
+            [part(0, 4), part(4, 4)],
+            Status::CopyOverlap,
+            Some(0),
+            Some(0),
+        ),
+        (8, [part(0, 4), part(2, 4)], Status::Ok, Some(0), Some(5)),
+        (8, [part(2, 4), part(0, 4)], Status::Ok, Some(2), Some(3)),
+        (
+            9,
+            [part(0, 4), part(2, 4)],
+            Status::OutOfRange,
+            Some(0),
+            Some(0),
+        ),
+        (
+            8,
+            [part(0, 4), part(2, 0)],
+            Status::BadLength,
+            Some(0),
+            Some(0),
+        ),
+    ] {
+        let answer = copy(rt.alloc(), at, &sources);
+        assert_eq!(rt; answer, Some((status, first, last)), "to {at}");
+    }
+}
+
+// What a fill of memory, zeroes and a read of blocks answer on 16 bytes and 8 blocks.
+fn spans(alloc: Global, len: u64, lba: u64, count: u64) -> Option<(Status, Status, Status, u64)> {
+    let config = Config::new(512, 16, 1000)?
+        .with_size(SpaceId::Nvm(1), 8)?
+        .with_size(SpaceId::Mem(1), 16)?;
+    let mut device = SeqDevice::new(alloc, &config).ok()?;
+    let fill = device.step(&Command::MemFill {
+        ns: 1,
+        at: 0,
+        len,
+        value: 9,
+    });
+    let zeroes = device.step(&Command::NvmZeroes { ns: 1, lba, count });
+    let read = device.step(&Command::NvmRead { ns: 1, lba, count });
+    Some((fill.status, zeroes.status, read.status, read.bytes.len()))
+}
+
+#[test]
+fn fills_and_blocks_are_checked(rt: HostRuntime) {
+    for (len, lba, count, fill, zeroes, bytes) in [
+        (0, 0, 1, Status::BadLength, Status::Ok, 512),
+        (16, 7, 1, Status::Ok, Status::Ok, 512),
+        (17, 7, 2, Status::OutOfRange, Status::OutOfRange, 0),
+        (1_048_577, 0, 0, Status::TooLong, Status::BadLength, 0),
+    ] {
+        let answer = spans(rt.alloc(), len, lba, count);
+        assert_eq!(rt;
+            answer,
+            Some((fill, zeroes, zeroes, bytes)),
+            "{len} bytes, {count} blocks"
         );
     }
 }

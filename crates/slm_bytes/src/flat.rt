@@ -1,8 +1,8 @@
 // The bytes of every namespace, each as one flat list.
-ghost use Rattle.std.specs.Prelude.{◌≡◌, ◌+◌, ◌*◌, ◌≤◌, ◌<◌, [], length, map, slice_get, unwrap_or, option_map, IfOk};
+ghost use Rattle.std.specs.Prelude.{◌≡◌, ◌+◌, ◌*◌, ◌≤◌, ◌<◌, [], length, map, replicate, slice_get, unwrap_or, option_map, IfOk};
 ghost use Rattle.cp_base.specs.Configuration.{numbered, with_numbered};
 ghost use Rattle.cp_base.specs.Pieces.{patched};
-ghost use Rattle.slm_bytes.specs.Spaces.{spaces};
+ghost use Rattle.cp_base.specs.Buffer.{contents_of};
 ghost use Rattle.cp_base.specs.Contents.{IsInside, all_zero, bytes_in, bytes_of, put, zeros};
 
 use cp_base::{ByteRange, Bytes, Config, NoMemory, SpaceId};
@@ -19,16 +19,16 @@ pub struct Flat {
 
 impl Model for Flat {
     ghost use Rattle.cp_base.specs.Contents.{Contents};
-    ghost use Rattle.slm_bytes.specs.Spaces.{spaces};
+    ghost use Rattle.cp_base.specs.Buffer.{contents_of};
 
     ghost Value = { Contents };
 
-    ghost view = { λ f. record { nvm = spaces f.nvm.items; mem = spaces f.mem.items } };
+    ghost view = { λ f. record { nvm = contents_of f.nvm.items; mem = contents_of f.mem.items } };
 }
 
 // A buffer of zeros for each of the sizes, which are in these units.
 fn zeroed(alloc: Global, sizes: &[u32], unit: u32) -> Result<Vec<Bytes>, NoMemory>
-    ensures { IfOk result (λ made. spaces made.items ≡ zeros unit sizes.now) }
+    ensures { IfOk result (λ made. contents_of made.items ≡ zeros unit sizes.now) }
 {
     let mut made = Vec::new(alloc);
     for size in sizes {
@@ -38,9 +38,9 @@ fn zeroed(alloc: Global, sizes: &[u32], unit: u32) -> Result<Vec<Bytes>, NoMemor
 }
 
 // The bytes of a numbered space; none where there is no such space.
-#[tactic(auto, using(crate::proofs::Numbers::numbered_spaces))]
+#[tactic(auto, using(crate::proofs::Numbers::numbered_contents))]
 fn bytes_at(all: &[Bytes], number: u32) -> &[u8]
-    ensures { result.now ≡ unwrap_or (numbered (spaces all.now) number) [] }
+    ensures { result.now ≡ unwrap_or (numbered (contents_of all.now) number) [] }
 {
     if number == 0 || number as usize > all.len() {
         return &[];
@@ -105,14 +105,35 @@ impl Flat {
             SpaceId::Mem(n) => write_at(&mut self.mem, n, range.start(), from),
         }
     }
+
+    /// Puts the same byte over those of a range, which the namespace has. It takes no memory.
+    pub fn fill(&mut self, range: &ByteRange, value: u8)
+        requires { IsInside self.old range.now }
+        ensures { self.new ≡ put self.old range.now.space range.now.start (replicate range.now.len value) }
+    {
+        match range.space() {
+            SpaceId::Nvm(n) => fill_at(&mut self.nvm, n, range.start(), range.len(), value),
+            SpaceId::Mem(n) => fill_at(&mut self.mem, n, range.start(), range.len(), value),
+        }
+    }
 }
 
 // Puts bytes over those of a numbered space from a place on.
 fn write_at(all: &mut Vec<Bytes>, number: u32, start: u64, from: &[u8])
     requires some { 0 < length from.now }
-    requires inside { start + length from.now ≤ length (unwrap_or (numbered (spaces all.old.items) number) []) }
-    ensures { spaces all.new.items ≡ with_numbered (spaces all.old.items) number (patched (unwrap_or (numbered (spaces all.old.items) number) []) start from.now) }
+    requires inside { start + length from.now ≤ length (unwrap_or (numbered (contents_of all.old.items) number) []) }
+    ensures { contents_of all.new.items ≡ with_numbered (contents_of all.old.items) number (patched (unwrap_or (numbered (contents_of all.old.items) number) []) start from.now) }
 {
     let space = &mut all[number as usize - 1];
     space.write(start, from);
+}
+
+// Puts the same byte over so many bytes of a numbered space from a place on.
+fn fill_at(all: &mut Vec<Bytes>, number: u32, start: u64, n: u64, value: u8)
+    requires some { 0 < n }
+    requires inside { start + n ≤ length (unwrap_or (numbered (contents_of all.old.items) number) []) }
+    ensures { contents_of all.new.items ≡ with_numbered (contents_of all.old.items) number (patched (unwrap_or (numbered (contents_of all.old.items) number) []) start (replicate n value)) }
+{
+    let space = &mut all[number as usize - 1];
+    space.fill(start, n, value);
 }

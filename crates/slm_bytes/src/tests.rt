@@ -1,6 +1,6 @@
 // What no clause says: that calls succeed where there is memory, and worked examples.
 use crate::{Flat, bytes_to_range};
-use cp_base::{ByteRange, Bytes, Config, SpaceId, Status};
+use cp_base::{ByteRange, Bytes, Config, MAX_TRANSFER, SpaceId, Status};
 use std::alloc::Global;
 
 // A device with memory namespace 1 of so many bytes.
@@ -10,7 +10,7 @@ fn memory_1(bytes: u32) -> Option<Config> {
 
 // What the checks of a range answer; `Ok` where they pass.
 fn checked(bytes: u32, ns: u32, at: u64, len: u64) -> Option<Status> {
-    match bytes_to_range(&memory_1(bytes)?, ns, at, len, 8192) {
+    match bytes_to_range(&memory_1(bytes)?, ns, at, len, MAX_TRANSFER) {
         Ok(_) => Some(Status::Ok),
         Err(status) => Some(status),
     }
@@ -26,8 +26,8 @@ fn ranges_are_checked_in_order(rt: HostRuntime) {
         (16, 2, 0, 1, Status::BadNamespace),
         (16, 0, 0, 0, Status::BadNamespace),
         (16_384, 1, 0, 0, Status::BadLength),
-        (16_384, 1, 0, 8192, Status::Ok),
-        (16_384, 1, 16_384, 8193, Status::TooLong),
+        (16_384, 1, 0, MAX_TRANSFER, Status::Ok),
+        (16_384, 1, 16_384, MAX_TRANSFER + 1, Status::TooLong),
     ] {
         let answer = checked(bytes, ns, at, len);
         assert_eq!(rt; answer, Some(status), "{len} bytes at {at} of {ns}");
@@ -58,4 +58,33 @@ fn written(alloc: Global, from: &[u8]) -> Option<(u64, [Option<u8>; 3])> {
 fn bytes_are_kept(rt: HostRuntime) {
     let found = written(rt.alloc(), &[1, 2]);
     assert_eq!(rt; found, Some((2, [Some(1), Some(2), Some(0)])));
+}
+
+// The bytes of a memory of 4 bytes after some of them were filled with 7, and a byte past them.
+fn filled(alloc: Global, at: u64, len: u64) -> Option<[Option<u8>; 5]> {
+    let memory = SpaceId::Mem(1);
+    let mut flat = Flat::new(alloc, &memory_1(4)?).ok()?;
+    let range = ByteRange::new(memory, at, len)?;
+    if range.end() > 4 || flat.byte(memory, 3) != Some(0) {
+        return None;
+    }
+    flat.fill(&range, 7);
+    Some([0, 1, 2, 3, 4].map(|place| flat.byte(memory, place)))
+}
+
+#[test]
+fn ranges_are_filled(rt: HostRuntime) {
+    for (at, len, bytes) in [
+        (0, 1, [7, 0, 0, 0]),
+        (1, 2, [0, 7, 7, 0]),
+        (3, 1, [0, 0, 0, 7]),
+        (0, 4, [7, 7, 7, 7]),
+    ] {
+        let [a, b, c, d] = bytes.map(Some);
+        assert_eq!(rt;
+            filled(rt.alloc(), at, len),
+            Some([a, b, c, d, None]),
+            "{len} at {at}"
+        );
+    }
 }

@@ -1,8 +1,8 @@
-use Rattle.std.proofs.Common.{ℕ, List, sym, subst}
-use Rattle.bpf_exec.specs.Setting.{Describes}
+use Rattle.bpf_bench.proofs.Ones.{described}
+use Rattle.bpf_bench.specs.Range.{one_range, ones}
 use Rattle.bpf_bench.proofs.executed.Goals as goal
 
 pub returns : goal.returns
-returns c = λ program ranges memory described.
-    c.run.ensures.ending program ranges memory
-    (subst (λ (windows : List (List ℕ)). Describes program ranges memory c.args.code.now windows) (sym c.in_ok-view.ensures.windows) described)
+returns c = λ program code.
+    c.run.ensures.ending program (one_range c.args.len) ones
+    (described program c.args.code.now c.args.len c.in_ok-view.view code c.in_ok-view.ensures.windows c.in_ok-view.ensures.writable)

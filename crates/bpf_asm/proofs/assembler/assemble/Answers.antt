@@ -34,6 +34,14 @@ returns-then-not-is_empty-clause-fault c line e =
     let f = fault_unended c.args.text.now.items c.lines.rest.now c.lines.code.items c.lines.line c.lines.invariant c.in_default.ensures.whole nothing in
     subst (λ (n : ℕ). IsFaultyAt c.args.text.now.items n) (fault_is c.lines.line line (cc)) f
 
+pub returns-clause-bytes : goal.returns-clause-bytes
+returns-clause-bytes c =
+    let small : (k : ℕ) → slice_index c.lines.code.items k < 256 =
+    same_small c.as_slice-bytes.result.now c.lines.code.items c.as_slice-bytes.ensures (λ k. search rules) in
+    let none : c.lines.rest.now ≡ [] = empty_list c.lines.rest.now (grind (arith, c.if-not-is_empty.ensures)) in
+    let some : c.lines.code.items ≡ [] → ⊥ = λ e. let len : length c.as_slice-bytes.result.now ≡ 0 = ap length (c.as_slice-bytes.ensures ∙ e) in absurd (grind (arith, len, c.if-is_empty.ensures)) in
+    (all_assembled c.args.text.now.items c.lines.rest.now c.lines.code.items c.lines.line small c.lines.invariant none some).bytes
+
 pub returns-clause-well_formed : goal.returns-clause-well_formed
 returns-clause-well_formed c =
     let small : (k : ℕ) → slice_index c.lines.code.items k < 256 =

@@ -1,4 +1,4 @@
-use Rattle.std.proofs.Common.{◌≡◌, ℕ, ◌*◌, ◌<◌, length, List, Some, sym, ap, ◌∙◌, arith, slice_index, w8, ◌≤◌, get_or}
+use Rattle.std.proofs.Common.{◌≡◌, ℕ, ◌*◌, ◌<◌, length, List, Some, sym, ap, ◌∙◌, arith, slice_index, w8, ◌≤◌}
 use Rattle.std.proofs.Math.Facts.{Fits-lt-pow}
 use Rattle.bpf_model.specs.Form.{first_form, form}
 use Rattle.bpf_decode.proofs.Filling.{filled-start, filled-more, filled-allowed, rest_of}

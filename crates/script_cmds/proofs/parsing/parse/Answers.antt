@@ -1,6 +1,9 @@
-use Rattle.std.proofs.Common.{◌∙◌, ap, sym}
+use Rattle.std.proofs.Common.{List, ◌∙◌, ap, subst, sym}
 use Rattle.std.proofs.lemmas.Result.{err_from_is_err_and}
-use Rattle.script_cmds.specs.Drafts.{are_built_lines, draft_lines}
+use Rattle.script_line.specs.Line.{Line}
+use Rattle.script_line.specs.Sized.{AreSized}
+use Rattle.script_cmds.specs.Kept.{are_built_lines}
+use Rattle.script_cmds.specs.private.Drafts.{draft_lines}
 use Rattle.script_cmds.specs.Fault.{first_fault}
 use Rattle.script_cmds.specs.Text.{lines_text}
 use Rattle.script_cmds.proofs.WholeTexts.{built_script, count_goes_on, fault_later, few_of_text, text_goes_on, told_here}
@@ -24,3 +27,6 @@ returns-clause-built c = built_script c.in_ok-finish.field-0 (ap are_built_lines
 
 pub returns-clause-lines : goal.returns-clause-lines
 returns-clause-lines c = few_of_text _ (draft_lines c.lines.draft) c.lines.rest.now c.args.text.now.items 4294967294 c.in_ok-finish.ensures c.lines.invariant.text c.requires
+
+pub returns-clause-sized : goal.returns-clause-sized
+returns-clause-sized c = subst (λ (ls : List Line). AreSized ls) (sym c.in_ok-finish.ensures) c.lines.invariant.draft.sized

@@ -1,7 +1,7 @@
 use Rattle.std.proofs.Common.{◌≡◌, ◌+◌, ◌≤◌, ◌++◌, length}
-use Rattle.script_cmds.specs.Drafts.{IsDraft, draft_lines, newlines}
-use Rattle.script_cmds.specs.Fault.{fault_from, first_fault}
-use Rattle.script_cmds.specs.Field.{parts_between}
+use Rattle.cp_text.specs.Parts.{parts_between}
+use Rattle.script_cmds.specs.Fault.{fault_from, first_fault, newlines}
+use Rattle.script_cmds.specs.private.Drafts.{IsDraft, draft_lines}
 use Rattle.script_cmds.specs.Text.{lines_text}
 use Rattle.script_cmds.proofs.parsing.parse.Given as goal
 

@@ -1,8 +1,8 @@
 use Rattle.std.proofs.Common.{◌+◌, [], ◌∷◌, drop, subst, sym}
-use Rattle.script_cmds.specs.Printing.{Prints}
+use Rattle.script_cmds.specs.private.Printing.{Prints}
 use Rattle.script_cmds.specs.Text.{item_lines, item_line}
 use Rattle.script_cmds.proofs.Printed.{prints_both, prints_nothing}
-use Rattle.script_cmds.proofs.Walk.{drop-next, drop-none}
+use Rattle.script_line.proofs.Walk.{drop-next, drop-none}
 use Rattle.script_cmds.proofs.printing.push_items.Goals as goal
 
 pub loop-item-preserved : goal.loop-item-preserved

@@ -1,10 +1,12 @@
 use Rattle.std.proofs.Common.{◌+◌, [], ◌∷◌, drop, subst, sym}
-use Rattle.script_cmds.specs.declared.content.FieldContent.{FieldContent}
-use Rattle.script_cmds.specs.declared.kind.LineKind.TheVariants as line
-use Rattle.script_cmds.specs.Printing.{Prints, content_view}
+use Rattle.script_line.specs.declared.content.FieldContent.{FieldContent}
+use Rattle.script_line.specs.declared.kind.LineKind.TheVariants as line
+use Rattle.script_line.specs.Printing.{PrintsLine}
+use Rattle.script_line.specs.Values.{content_view}
+use Rattle.script_cmds.specs.private.Printing.{Prints}
 use Rattle.script_cmds.specs.Text.{item_lines, numbers_line, part_lines}
-use Rattle.script_cmds.proofs.Printed.{prints_both, prints_nothing}
-use Rattle.script_cmds.proofs.Walk.{drop-next, drop-none}
+use Rattle.script_cmds.proofs.Printed.{prints_both, prints_line, prints_nothing}
+use Rattle.script_line.proofs.Walk.{drop-next, drop-none}
 use Rattle.script_cmds.proofs.printing.push_parts.Goals as goal
 
 pub loop-part-preserved : goal.loop-part-preserved
@@ -14,7 +16,7 @@ loop-part-preserved c =
     let old = c.loop-part.out.items in
     let begun = c.push_line.new.out.items in
     let host : Prints (numbers_line line.Host (x.host ∷ []) ∷ []) old begun =
-    subst (λ (content : FieldContent). Prints (record { kind = line.Host; values = content_view content ∷ [] } ∷ []) old begun) c.small.ensures c.in_ok-push_line.ensures in
+    prints_line (numbers_line line.Host (x.host ∷ [])) old begun (subst (λ (content : FieldContent). PrintsLine (record { kind = line.Host; values = content_view content ∷ [] }) old begun) c.small.ensures c.in_ok-push_line.ensures) in
     let items : Prints (item_lines x.items) begun c.push_items.new.out.items = subst (λ xs. Prints (item_lines xs) begun c.push_items.new.out.items) c.as_slice.ensures c.in_ok-push_items.ensures in
     λ new h. c.loop-part.invariant new (subst (λ left. Prints (part_lines left) old new) (sym (drop-next c.args.parts.now c.loop-part.part-index x c.loop-part-test.true c.part-item.is))
     (prints_both (numbers_line line.Host (x.host ∷ []) ∷ item_lines x.items) (part_lines rest) old c.push_items.new.out.items new (prints_both (numbers_line line.Host (x.host ∷ []) ∷ []) (item_lines x.items) old begun c.push_items.new.out.items host items) h))

@@ -1,5 +1,5 @@
 use Rattle.std.proofs.Common.{ℕ, List, drop}
-use Rattle.script_cmds.specs.Printing.{Prints}
+use Rattle.script_cmds.specs.private.Printing.{Prints}
 use Rattle.script_cmds.specs.Text.{part_lines}
 use Rattle.script_cmds.proofs.printing.push_parts.Given as goal
 

@@ -1,9 +1,9 @@
 use Rattle.std.proofs.Common.{◌+◌, [], ◌∷◌, drop, subst, sym}
-use Rattle.script_cmds.specs.declared.kind.LineKind.TheVariants as line
-use Rattle.script_cmds.specs.Printing.{Prints}
+use Rattle.script_line.specs.declared.kind.LineKind.TheVariants as line
+use Rattle.script_cmds.specs.private.Printing.{Prints}
 use Rattle.script_cmds.specs.Text.{numbers_line, part_lines, phase_lines}
-use Rattle.script_cmds.proofs.Printed.{prints_both, prints_nothing}
-use Rattle.script_cmds.proofs.Walk.{drop-next, drop-none}
+use Rattle.script_cmds.proofs.Printed.{prints_both, prints_line, prints_nothing}
+use Rattle.script_line.proofs.Walk.{drop-next, drop-none}
 use Rattle.script_cmds.proofs.printing.push_phases.Goals as goal
 
 pub loop-phase-preserved : goal.loop-phase-preserved
@@ -14,7 +14,7 @@ loop-phase-preserved c =
     let begun = c.push_line.new.out.items in
     let hosts : Prints (part_lines x.hosts) begun c.push_parts.new.out.items = subst (λ xs. Prints (part_lines xs) begun c.push_parts.new.out.items) c.as_slice.ensures c.in_ok-push_parts.ensures in
     λ new h. c.loop-phase.invariant new (subst (λ left. Prints (phase_lines left) old new) (sym (drop-next c.args.phases.now c.loop-phase.phase-index x c.loop-phase-test.true c.phase-item.is))
-    (prints_both (numbers_line line.Phase [] ∷ part_lines x.hosts) (phase_lines rest) old c.push_parts.new.out.items new (prints_both (numbers_line line.Phase [] ∷ []) (part_lines x.hosts) old begun c.push_parts.new.out.items c.in_ok-push_line.ensures hosts) h))
+    (prints_both (numbers_line line.Phase [] ∷ part_lines x.hosts) (phase_lines rest) old c.push_parts.new.out.items new (prints_both (numbers_line line.Phase [] ∷ []) (part_lines x.hosts) old begun c.push_parts.new.out.items (prints_line (numbers_line line.Phase []) old begun c.in_ok-push_line.ensures) hosts) h))
 
 pub returns : goal.returns
 returns c =

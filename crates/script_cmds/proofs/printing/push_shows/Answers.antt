@@ -1,8 +1,8 @@
 use Rattle.std.proofs.Common.{◌+◌, [], ◌∷◌, drop, subst, sym}
-use Rattle.script_cmds.specs.Printing.{Prints}
+use Rattle.script_cmds.specs.private.Printing.{Prints}
 use Rattle.script_cmds.specs.Text.{show_lines, show_line}
 use Rattle.script_cmds.proofs.Printed.{prints_both, prints_nothing}
-use Rattle.script_cmds.proofs.Walk.{drop-next, drop-none}
+use Rattle.script_line.proofs.Walk.{drop-next, drop-none}
 use Rattle.script_cmds.proofs.printing.push_shows.Goals as goal
 
 pub loop-show-preserved : goal.loop-show-preserved

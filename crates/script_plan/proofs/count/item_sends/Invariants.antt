@@ -1,5 +1,5 @@
 use Rattle.std.proofs.Common.{◌≡◌, ◌+◌, ◌≤◌, drop}
-use Rattle.script_plan.specs.Counts.{sends_in_items}
+use Rattle.script_cmds.specs.Counts.{sends_in_items}
 use Rattle.script_plan.proofs.count.item_sends.Given as goal
 
 abbrev pub invariant-loop-item : goal.invariant-loop-item

@@ -1,7 +1,7 @@
 use Rattle.std.proofs.Common.{ap, arith}
 use Rattle.script_plan.proofs.Counting.{sends_in_parts-cons, sends-parts}
-use Rattle.script_plan.specs.Counts.{sends_in_items}
-use Rattle.script_cmds.proofs.Walk.{drop-next}
+use Rattle.script_cmds.specs.Counts.{sends_in_items}
+use Rattle.script_line.proofs.Walk.{drop-next}
 use Rattle.script_plan.proofs.count.part_sends.Goals as goal
 
 pub overflow_add-sends : goal.overflow_add-sends

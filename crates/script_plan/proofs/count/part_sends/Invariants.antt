@@ -1,6 +1,6 @@
 use Rattle.std.proofs.Common.{◌≡◌, ◌+◌, ◌≤◌, drop}
 use Rattle.history_model.specs.Plan.{lines_of_parts}
-use Rattle.script_plan.specs.Counts.{sends_in_parts}
+use Rattle.script_cmds.specs.Counts.{sends_in_parts}
 use Rattle.script_plan.proofs.count.part_sends.Given as goal
 
 abbrev pub invariant-loop-part : goal.invariant-loop-part

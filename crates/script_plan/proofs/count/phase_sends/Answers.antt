@@ -1,8 +1,8 @@
 use Rattle.std.proofs.Common.{◌+◌, ap, arith, drop}
 use Rattle.script_plan.proofs.Counting.{sends_in_phases-cons, sends-phases, length-phase_lines}
 use Rattle.history_model.specs.Plan.{lines_of_parts}
-use Rattle.script_plan.specs.Counts.{sends_in_parts}
-use Rattle.script_cmds.proofs.Walk.{drop-next}
+use Rattle.script_cmds.specs.Counts.{sends_in_parts}
+use Rattle.script_line.proofs.Walk.{drop-next}
 use Rattle.script_plan.proofs.count.phase_sends.Goals as goal
 
 pub part_sends-sends-requires : goal.part_sends-sends-requires

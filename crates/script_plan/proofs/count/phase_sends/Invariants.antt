@@ -1,6 +1,6 @@
 use Rattle.std.proofs.Common.{◌≡◌, ◌+◌, ◌≤◌, drop, length}
 use Rattle.script_cmds.specs.Text.{phase_lines}
-use Rattle.script_plan.specs.Counts.{sends_in_phases}
+use Rattle.script_cmds.specs.Counts.{sends_in_phases}
 use Rattle.script_plan.proofs.count.phase_sends.Given as goal
 
 abbrev pub invariant-loop-phase : goal.invariant-loop-phase

@@ -1,8 +1,9 @@
 use Rattle.std.proofs.Common.{◌+◌, length, ◌∙◌, ap, arith}
 use Rattle.script_cmds.specs.Text.{configuration_lines, phase_lines}
-use Rattle.script_plan.specs.Counts.{sends_in_phases}
+use Rattle.script_cmds.specs.Counts.{sends_in_phases}
+use Rattle.script_cmds.proofs.HostLaws.{hosts_ascend}
 use Rattle.script_plan.proofs.Counting.{phases-fit}
-use Rattle.script_plan.proofs.Whole.{Means, keeps-rules, hosts-same, sends-given, sends-same, sends-counted}
+use Rattle.script_plan.proofs.Whole.{Means, keeps-queues, keeps-rules, hosts-same, sends-given, sends-same, sends-counted}
 use Rattle.script_plan.proofs.planning.plan.Goals as goal
 
 pub planned_phases-requires : goal.planned_phases-requires
@@ -29,6 +30,11 @@ pub returns-clause-hosts : goal.returns-clause-hosts
 returns-clause-hosts c =
     hosts-same c.args.script.now.config.depth (length (configuration_lines c.args.script.now.config) + 1) c.args.script.now.phases c.in_ok-planned.planned (means c)
 
+pub returns-clause-queues : goal.returns-clause-queues
+returns-clause-queues c =
+    keeps-queues c.args.script.now.config.depth (length (configuration_lines c.args.script.now.config) + 1) c.args.script.now.phases c.in_ok-planned.planned (means c)
+
 pub returns-clause-rules : goal.returns-clause-rules
-returns-clause-rules c =
+returns-clause-rules c = λ kept.
     keeps-rules c.args.script.now.config.depth (length (configuration_lines c.args.script.now.config) + 1) c.args.script.now.phases c.in_ok-planned.planned (means c)
+    (hosts_ascend c.args.script.now kept)

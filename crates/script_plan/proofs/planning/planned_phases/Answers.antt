@@ -2,7 +2,7 @@ use Rattle.std.proofs.Common.{◌+◌, ◌∙◌, ap, arith, drop}
 use Rattle.history_model.specs.Plan.{lines_of_parts}
 use Rattle.script_plan.proofs.Counting.{length-phase_lines}
 use Rattle.script_plan.proofs.Steps.{phases-loop}
-use Rattle.script_cmds.proofs.Walk.{drop-next}
+use Rattle.script_line.proofs.Walk.{drop-next}
 use Rattle.script_plan.proofs.planning.planned_phases.Goals as goal
 
 pub planned_phase-requires : goal.planned_phase-requires

@@ -1,6 +1,6 @@
 use Rattle.std.proofs.Common.{ℕ, ◌≤◌, eqb, length, arith, ap}
 use Rattle.std.proofs.lemmas.List.Sums.{count_by-le-length}
-use Rattle.script_cmds.specs.Drafts.{newlines}
+use Rattle.script_cmds.specs.Fault.{newlines}
 use Rattle.script_plan.proofs.tests.planned.Goals as goal
 
 pub parse-requires : goal.parse-requires

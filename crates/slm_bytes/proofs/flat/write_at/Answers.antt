@@ -1,8 +1,8 @@
 use Rattle.std.proofs.Common.{ℕ, ◌-◌, List, length, sym, ap, ◌∙◌, arith}
 use Rattle.cp_base.specs.Configuration.{with_numbered}
 use Rattle.cp_base.specs.Pieces.{patched}
-use Rattle.slm_bytes.specs.Spaces.{spaces}
-use Rattle.slm_bytes.proofs.Numbers.{number_inside, space_read, spaces-set}
+use Rattle.cp_base.specs.Buffer.{contents_of}
+use Rattle.slm_bytes.proofs.Numbers.{number_inside, space_read, contents_of-set}
 use Rattle.slm_bytes.proofs.flat.write_at.Goals as goal
 
 pub write-requires : goal.write-requires
@@ -17,5 +17,5 @@ returns c =
     let bs = c.args.all.now.items in
     let inside = number_inside bs c.args.number (omega (arith, c.requires.some, c.requires.inside)) in
     let read = space_read bs c.args.number c.index_mut-space.result.now inside.0 inside.1 c.index_mut-space.ensures.value in
-    spaces-set bs c.args.number (c.args.number - 1) c.write.new.self (omega arith)
-    ∙ ap (with_numbered (spaces bs) c.args.number) (c.write.ensures.items ∙ ap (λ (xs : List ℕ). patched xs c.args.start c.args.from.now) (sym read))
+    contents_of-set bs c.args.number (c.args.number - 1) c.write.new.self (omega arith)
+    ∙ ap (with_numbered (contents_of bs) c.args.number) (c.write.ensures.items ∙ ap (λ (xs : List ℕ). patched xs c.args.start c.args.from.now) (sym read))

@@ -1,0 +1,32 @@
+//! Which commands this version of the program carries out. The others come one by one, and with the last
+//! of them this crate goes.
+#![tactic(auto)]
+
+ghost use Rattle.std.specs.Prelude.{◌≡◌};
+ghost use Rattle.built_commands.specs.Built.{is_built_word};
+
+use cp_base::CommandWord;
+
+/// Whether the command of this word is carried out.
+pub fn is_built(word: CommandWord) -> bool
+    ensures { result ≡ is_built_word word }
+{
+    match word {
+        CommandWord::NvmRead
+        | CommandWord::NvmWrite
+        | CommandWord::NvmZeroes
+        | CommandWord::NvmCopy
+        | CommandWord::MemRead
+        | CommandWord::MemWrite
+        | CommandWord::MemFill
+        | CommandWord::MemCopy => true,
+        CommandWord::SetCreate
+        | CommandWord::SetDelete
+        | CommandWord::Load
+        | CommandWord::Unload
+        | CommandWord::Activate
+        | CommandWord::Deactivate
+        | CommandWord::Execute
+        | CommandWord::Abort => false,
+    }
+}

@@ -1,0 +1,41 @@
+use Rattle.std.proofs.Common.{List, map, inl, sym, subst}
+use Rattle.std.specs.Io.KnownBytes.{Appends}
+use Rattle.cp_base.specs.Configuration.{Configuration}
+use Rattle.cp_io.specs.Sink.{AppendsFront}
+use Rattle.script_cmds.specs.declared.item.Show.{Show}
+use Rattle.history_model.specs.Sent.{Sent}
+use Rattle.nvmecp.specs.Finished.{finished_text}
+use Rattle.nvmecp.specs.Place.{AreBuilt, place_of}
+use Rattle.nvmecp.specs.Shown.{AreInside}
+use Rattle.nvmecp.proofs.BuiltSends.{sends_built}
+use Rattle.nvmecp.proofs.Printed.{print_of}
+use Rattle.nvmecp.proofs.Shows.{inside}
+use Rattle.nvmecp.proofs.step.carry_out.Goals as goal
+
+pub finish-requires-clause-built : goal.finish-requires-clause-built
+finish-requires-clause-built g c =
+    subst (λ (sents : List Sent). AreBuilt (map place_of sents)) (sym c.requires.sends) (sends_built c.args.script.now c.requires.built)
+
+pub print-requires-clause-inside : goal.print-requires-clause-inside
+print-requires-clause-inside g c =
+    let script = c.args.script.now in
+    let all : AreInside script.config script.shows = inside script c.depth-depth.ensures.limits.nvm_numbers c.depth-depth.ensures.limits.mem_numbers c.requires.kept in
+    subst (λ (config : Configuration). AreInside config c.as_slice.result.now) (sym c.in-Ok.ensures.config)
+    (subst (λ (shows : List Show). AreInside script.config shows) (sym c.as_slice.ensures) all)
+
+pub returns-in-Ok-print-clause-ends : goal.returns-in-Ok-print-clause-ends
+returns-in-Ok-print-clause-ends g c = record {
+  text = finished_text c.in-Ok.finished c.args.script.now.shows;
+  due = print_of c.args.script.now c.args.plan.now.phases c.in-Ok.finished c.requires.planned c.requires.given c.in-Ok.ensures;
+  written = subst (λ (shows : List Show). Appends (g.K.Sink.held c.args.sink.now) (g.K.Sink.held c.print.new.sink) (finished_text c.in-Ok.finished shows)) c.as_slice.ensures c.in-Ok-print.ensures.all;
+}
+
+pub returns-in-Err-print-clause-ends : goal.returns-in-Err-print-clause-ends
+returns-in-Err-print-clause-ends g c = (
+  record {
+    text = finished_text c.in-Ok.finished c.args.script.now.shows;
+    due = inl (print_of c.args.script.now c.args.plan.now.phases c.in-Ok.finished c.requires.planned c.requires.given c.in-Ok.ensures);
+    front = subst (λ (shows : List Show). AppendsFront (g.K.Sink.held c.args.sink.now) (g.K.Sink.held c.print.new.sink) (finished_text c.in-Ok.finished shows)) c.as_slice.ensures c.in-Err-print.ensures.front;
+  },
+  c.in-Err-print.ensures.fault,
+)

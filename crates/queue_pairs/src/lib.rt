@@ -1,0 +1,12 @@
+//! The queue of one host: its outstanding commands in the order in which it sent them.
+#![tactic(auto)]
+
+mod causes;
+mod command;
+mod queue;
+#[cfg(test)]
+mod tests;
+
+pub use causes::{SendCause, TakeCause};
+pub use command::{Outstanding, Queued, Stage};
+pub use queue::Queue;

@@ -1,0 +1,15 @@
+pub mod Settled
+pub mod Items
+pub mod PlanSends
+pub mod Standings
+pub mod Notes
+pub mod Walk
+pub mod WholePlans
+pub mod Pairs
+pub mod Telling
+pub mod Listing
+pub mod Beginnings
+pub mod Running
+pub mod Scheduling
+pub mod Ongoing
+pub mod Growing

@@ -1,0 +1,4 @@
+pub mod Deeds
+pub mod Examples
+pub mod Schedule
+pub mod Told

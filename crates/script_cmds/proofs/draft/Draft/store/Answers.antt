@@ -1,0 +1,12 @@
+use Rattle.std.proofs.Common.{◌≡◌, true, map, subst}
+use Rattle.script_line.specs.declared.kind.LineKind.{LineKind}
+use Rattle.script_line.specs.Values.{value_view}
+use Rattle.script_cmds.specs.Progress.{is_within_limits}
+use Rattle.script_cmds.proofs.Meanings.{shown_inside}
+use Rattle.script_cmds.proofs.draft.Draft.store.Goals as goal
+
+pub show-requires-clause-inside : goal.show-requires-clause-inside
+show-requires-clause-inside c =
+    let values = map value_view c.args.line.values.items in
+    let kept = subst (λ (k : LineKind). is_within_limits c.args.self.now.progress (record { kind = k; values = map value_view c.args.line.values.items }) ≡ true) c.in-Show.is c.requires.judged in
+    rw c.as_slice-in-Show.ensures.value (shown_inside c.args.self.now.progress c.in-Show.kind values c.requires.limits kept)

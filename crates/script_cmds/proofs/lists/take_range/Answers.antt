@@ -1,9 +1,0 @@
-use Rattle.std.proofs.Common.{map, refl}
-use Rattle.script_cmds.specs.Field.{mem_range, read_range}
-use Rattle.script_cmds.proofs.Triples.{each_err}
-use Rattle.script_cmds.proofs.lists.take_range.Goals as goal
-
-pub returns-in-Err-Fault : goal.returns-in-Err-Fault
-returns-in-Err-Fault c = λ parts.
-    let e = rw c.in-Err-Fault.field-0-is at c.in-Err-Fault.ensures in
-    rw c.noted.ensures (each_err read_range c.args.fault (map mem_range c.args.ranges.now.items) c.in-Err-Fault.cause c.args.part.now parts _ e refl)

@@ -1,9 +1,0 @@
-use Rattle.std.proofs.Common.{ℕ, ◌≤◌, eqb, length, arith, ap}
-use Rattle.std.proofs.lemmas.List.Sums.{count_by-le-length}
-use Rattle.script_cmds.specs.Drafts.{newlines}
-use Rattle.script_cmds.proofs.tests.outcome.Goals as goal
-
-pub parse-requires : goal.parse-requires
-parse-requires c =
-    let few : newlines c.in_ok-bytes.bytes.items ≤ length c.in_ok-bytes.bytes.items = count_by-le-length (λ (b : ℕ). eqb b 10) c.in_ok-bytes.bytes.items in
-    omega (arith, ap length c.in_ok-bytes.ensures.items)

@@ -1,0 +1,12 @@
+pub mod Heads
+pub mod Elements
+pub mod Names
+pub mod Outcomes
+pub mod Printed
+pub mod ReadAgain
+pub mod Said
+pub mod Sends
+pub mod Shapes
+pub mod Spelled
+pub mod Triples
+pub mod Walk

@@ -1,0 +1,82 @@
+// Lines both ways.
+use super::*;
+use cp_base::{Access, Bytes, CommandWord};
+use std::alloc::Global;
+use std::test::Fail;
+
+// What a text is read as: whether what it says keeps its limits, or its cause.
+fn judged(alloc: Global, text: &str) -> Result<Result<bool, TextCause>, Fail> {
+    match read_line(alloc, text.as_bytes()) {
+        Ok(line) => Ok(Ok(fits(&line))),
+        Err(LineEnd::Fault(cause)) => Ok(Err(cause)),
+        Err(LineEnd::NoMemory) => Err(Fail::from("memory is wanting")),
+    }
+}
+
+#[test]
+fn lines_are_read(rt: HostRuntime) -> Result<(), Fail> {
+    let table = [
+        ("", Err(TextCause::Word)),
+        ("nvm", Err(TextCause::Field)),
+        ("nvm 1 blocks=1", Ok(true)),
+        ("nvm 9 blocks=1", Ok(false)),
+        ("nvm 0 blocks=1", Ok(false)),
+        ("nvm 8 blocks=0", Ok(false)),
+        ("nvm 8 bytes=1", Err(TextCause::Field)),
+        ("mem 8 bytes=16777216", Ok(true)),
+        ("mem 8 bytes=16777217", Ok(false)),
+        ("host 16", Ok(true)),
+        ("host 17", Ok(false)),
+        ("take 65535", Ok(true)),
+        ("take 65536", Ok(false)),
+        ("show nvm 1 at=18446744073709551615 len=8192", Ok(true)),
+        ("show nvm 1 at=0 len=8193", Ok(false)),
+        ("show mem 1 at=0 len=0", Ok(false)),
+        ("show ram 1 at=0 len=0", Err(TextCause::Word)),
+        ("show", Err(TextCause::Field)),
+        ("send 1", Err(TextCause::Field)),
+        ("send 1 memwrote", Err(TextCause::Word)),
+        ("send x memread ns=0 at=0 len=0", Err(TextCause::Number)),
+        ("send x memread ns=0 at=0", Err(TextCause::Field)),
+        ("send 65536 memread ns=0 at=0 len=0", Ok(false)),
+        ("send 1 memread ns=4294967295 at=0 len=0", Ok(true)),
+        ("send 1 memread ns=4294967296 at=0 len=0", Ok(false)),
+        ("send 1 memwrite ns=0 at=0 data=0A", Err(TextCause::Hex)),
+        ("send 1 memwrite ns=00 at=0 data=0A", Err(TextCause::Number)),
+        ("send 1 memwrite ns=00 at=0 data=0A ", Err(TextCause::Field)),
+        ("nvmecp 1 block=1 depth=256 budget=10000000", Ok(true)),
+        ("nvmecp 1 block=1 depth=257 budget=10000000", Ok(false)),
+        ("nvmecp 1 block=1 depth=256 budget=10000001", Ok(false)),
+        ("nvmecp 1 block=1 depth=0 budget=1", Ok(false)),
+        ("nvmecp 2 block=1 depth=1 budget=1", Err(TextCause::Field)),
+    ];
+    for (text, wanted) in table {
+        assert_eq!(rt; judged(rt.alloc(), text)?, wanted, "{text}");
+    }
+    Ok(())
+}
+
+#[test]
+fn lists_are_made(rt: HostRuntime) -> Result<(), Fail> {
+    let triple = Triple {
+        ns: 1,
+        start: 2,
+        len: 3,
+    };
+    let mut ranges = Vec::new(rt.alloc());
+    ranges.push(RangeText {
+        triple,
+        access: Access::ReadOnly,
+    })?;
+    let mut values = Vec::new(rt.alloc());
+    values.push(FieldValue::Count(7))?;
+    values.push(FieldValue::Covered(ranges))?;
+    let command = command_of(rt.alloc(), CommandWord::SetCreate, values)?;
+    let mut out = Bytes::new(rt.alloc());
+    push_send(&mut out, 7, &command)?;
+    assert_eq!(rt;
+        out.as_slice(),
+        b"send 7 setcreate ranges=1:2:3:r\n".as_slice()
+    );
+    Ok(())
+}

@@ -1,0 +1,15 @@
+pub mod Aborts
+pub mod Accounts
+pub mod Claims
+pub mod Each
+pub mod Examples
+pub mod Fits
+pub mod Footprints
+pub mod Histories
+pub mod Lawful
+pub mod Linked
+pub mod LocalEffects
+pub mod Pieces
+pub mod Sized
+pub mod Traced
+pub mod World
