@@ -15,13 +15,13 @@ is_built_word word.NvmZeroes = true
 is_built_word word.NvmCopy = true
 is_built_word word.MemFill = true
 is_built_word word.MemCopy = true
-is_built_word word.SetCreate = false
-is_built_word word.SetDelete = false
-is_built_word word.Load = false
-is_built_word word.Unload = false
-is_built_word word.Activate = false
-is_built_word word.Deactivate = false
-is_built_word word.Execute = false
+is_built_word word.SetCreate = true
+is_built_word word.SetDelete = true
+is_built_word word.Load = true
+is_built_word word.Unload = true
+is_built_word word.Activate = true
+is_built_word word.Deactivate = true
+is_built_word word.Execute = true
 is_built_word word.Abort = false
 
 -- whether a command is carried out

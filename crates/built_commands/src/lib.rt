@@ -1,5 +1,4 @@
-//! Which commands this version of the program carries out. The others come one by one, and with the last
-//! of them this crate goes.
+//! Which commands this version of the program carries out: all but the Abort. With that one this crate goes.
 #![tactic(auto)]
 
 ghost use Rattle.std.specs.Prelude.{◌≡◌};
@@ -19,14 +18,14 @@ pub fn is_built(word: CommandWord) -> bool
         | CommandWord::MemRead
         | CommandWord::MemWrite
         | CommandWord::MemFill
-        | CommandWord::MemCopy => true,
-        CommandWord::SetCreate
+        | CommandWord::MemCopy
+        | CommandWord::SetCreate
         | CommandWord::SetDelete
         | CommandWord::Load
         | CommandWord::Unload
         | CommandWord::Activate
         | CommandWord::Deactivate
-        | CommandWord::Execute
-        | CommandWord::Abort => false,
+        | CommandWord::Execute => true,
+        CommandWord::Abort => false,
     }
 }

@@ -98,7 +98,7 @@ fn faults(rt: HostRuntime) -> Result<(), Fail> {
         ),
         (
             FRONT,
-            "send 1 nvmread ns=1 lba=0 count=1\n",
+            "send 1 abort cid=1\n",
             5,
             TextCause::Word,
         ),
