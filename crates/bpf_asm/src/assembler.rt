@@ -10,7 +10,7 @@ use crate::reading::read_line;
 use bpf_decode::encode;
 use bpf_isa::Insn;
 use cp_base::{Bytes, MAX_PROGRAM, NoMemory};
-use cp_text::{make_room, next_line};
+use cp_text::next_line;
 use std::alloc::Global;
 use thiserror::Error;
 
@@ -85,7 +85,7 @@ fn add_insn(code: &mut Bytes, insn: &Insn, number: u32) -> Result<(), AsmEnd>
     if code.len() > MAX_PROGRAM - len {
         return Err(AsmEnd::Fault { line: number });
     }
-    make_room(code, len)?;
+    code.reserve(len)?;
     encode(insn, code);
     Ok(())
 }

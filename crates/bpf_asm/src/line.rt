@@ -7,7 +7,6 @@ use crate::mnemonic::Mnemonic;
 use crate::operand::{Operands, append_operands};
 use bpf_isa::Insn;
 use cp_base::{Bytes, NoMemory};
-use cp_text::make_room;
 
 /// As much room as any line needs with its newline, in bytes.
 pub const LINE_ROOM: u64 = 76;
@@ -33,7 +32,7 @@ pub fn push_line(out: &mut Bytes, insn: &Insn) -> Result<(), NoMemory>
     ensures full { OnErr result (out.old.spare < LINE_ROOM) }
     ensures unchanged { OnErr result (out.new ≡ out.old) }
 {
-    make_room(out, LINE_ROOM)?;
+    out.reserve(LINE_ROOM)?;
     append_line(out, insn);
     Ok(())
 }

@@ -102,9 +102,9 @@ hex_text-are_digits (byte ∷ rest) h =
     (hex_text-are_digits rest (All-tail (λ (item : ℕ). item < 256) byte rest h)))
 
 -- two for each byte
-pub length-hex_text : (bytes : List ℕ) → length (hex_text bytes) ≡ 2 * length bytes
-length-hex_text [] = refl
-length-hex_text (byte ∷ rest) = let ih = length-hex_text rest in omega (arith, ih)
+pub hex_length : (bytes : List ℕ) → length (hex_text bytes) ≡ 2 * length bytes
+hex_length [] = refl
+hex_length (byte ∷ rest) = let ih = hex_length rest in omega (arith, ih)
 
 -- the text of bytes after bytes
 pub hex_text-append : (a b : List ℕ) → hex_text (a ++ b) ≡ hex_text a ++ hex_text b

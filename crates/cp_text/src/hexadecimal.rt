@@ -1,9 +1,9 @@
 // Bytes as text, two hexadecimal digits in lower case for each.
-ghost use Rattle.std.specs.Prelude.{◌≡◌, ◌+◌, ◌*◌, ◌<◌, ◌≤◌, ◌++◌, length, is_some, option_map, IsSome, IfOk, IfSome, OnOk, OnErr};
+ghost use Rattle.std.specs.Prelude.{◌≡◌, ◌*◌, ◌≤◌, length, is_some, option_map, IsSome, IfOk, IfSome, OnErr};
 ghost use Rattle.std.specs.List.{list_all};
+ghost use Rattle.cp_base.specs.Growth.{Appended, Pushed};
 ghost use Rattle.cp_text.specs.HexText.{digit_of, hex_of, hex_text};
 
-use crate::pieces::make_room;
 use cp_base::{Bytes, NoMemory};
 use std::alloc::Global;
 
@@ -52,8 +52,7 @@ fn is_digit(byte: u8) -> bool
 /// Adds the digits of bytes at the end, for which there is room.
 pub fn append_hex(out: &mut Bytes, bytes: &[u8])
     requires { 2 * length bytes.now ≤ out.old.spare }
-    ensures items { out.new.items ≡ out.old.items ++ hex_text bytes.now }
-    ensures spare { out.new.spare + 2 * length bytes.now ≡ out.old.spare }
+    ensures { Appended out.old out.new (hex_text bytes.now) }
 {
     let mut rest = bytes;
     while !rest.is_empty() {
@@ -67,8 +66,7 @@ pub fn append_hex(out: &mut Bytes, bytes: &[u8])
 fn append_chunk(out: &mut Bytes, chunk: &[u8])
     requires few { length chunk.now ≤ 64 }
     requires room { 2 * length chunk.now ≤ out.old.spare }
-    ensures items { out.new.items ≡ out.old.items ++ hex_text chunk.now }
-    ensures spare { out.new.spare + 2 * length chunk.now ≡ out.old.spare }
+    ensures { Appended out.old out.new (hex_text chunk.now) }
 {
     let mut digits = [0u8; 2 * CHUNK];
     let text = &mut digits[..2 * chunk.len()];
@@ -77,14 +75,11 @@ fn append_chunk(out: &mut Bytes, chunk: &[u8])
 }
 
 /// Adds the digits of bytes at the end. It is refused only where there is less room than that.
+#[tactic(auto, using(crate::proofs::HexTexts::hex_length))]
 pub fn push_hex(out: &mut Bytes, bytes: &[u8]) -> Result<(), NoMemory>
-    ensures items { OnOk result (out.new.items ≡ out.old.items ++ hex_text bytes.now) }
-    ensures spare { OnOk result (2 * length bytes.now ≤ out.old.spare
-        → out.new.spare + 2 * length bytes.now ≡ out.old.spare) }
-    ensures full { OnErr result (out.old.spare < 2 * length bytes.now) }
-    ensures unchanged { OnErr result (out.new ≡ out.old) }
+    ensures { Pushed result out.old out.new (hex_text bytes.now) }
 {
-    make_room(out, 2 * bytes.len() as u64)?;
+    out.reserve(2 * bytes.len() as u64)?;
     append_hex(out, bytes);
     Ok(())
 }

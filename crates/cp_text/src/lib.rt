@@ -17,5 +17,5 @@ pub use laws::{
 };
 pub use numbers::{append_number, number, push_number};
 pub use parts::{next_line, split_part};
-pub use pieces::{make_room, push_piece};
+pub use pieces::push_piece;
 pub use signed_numbers::{append_signed, push_signed, signed};

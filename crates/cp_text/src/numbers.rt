@@ -1,6 +1,7 @@
 // Decimal numbers of 64 bits without a sign.
-ghost use Rattle.std.specs.Prelude.{◌≡◌, ◌+◌, ◌^◌, ◌<◌, ◌≤◌, ◌&&◌, nat_lt, ◌++◌, length, decimal, OnOk, OnErr, if◌then◌else◌};
+ghost use Rattle.std.specs.Prelude.{◌≡◌, ◌+◌, ◌^◌, ◌<◌, ◌≤◌, ◌&&◌, nat_lt, length, decimal, if◌then◌else◌};
 ghost use Rattle.std.specs.Char.{is_ascii_digit};
+ghost use Rattle.cp_base.specs.Growth.{Appended, Pushed};
 ghost use Rattle.cp_text.specs.Number.{extended, number_of};
 
 use crate::pieces::push_piece;
@@ -37,8 +38,7 @@ fn with_digit(value: u64, byte: u8) -> Option<u64>
 /// Adds the digits of a number at the end, for which there is room.
 pub fn append_number(out: &mut Bytes, n: u64)
     requires { length (decimal n) ≤ out.old.spare }
-    ensures items { out.new.items ≡ out.old.items ++ decimal n }
-    ensures spare { out.new.spare + length (decimal n) ≡ out.old.spare }
+    ensures { Appended out.old out.new (decimal n) }
 {
     let mut buffer = itoa::Buffer::new();
     out.append(buffer.format(n).as_bytes());
@@ -46,11 +46,7 @@ pub fn append_number(out: &mut Bytes, n: u64)
 
 /// Adds the digits of a number at the end. It is refused only where there is less room than that.
 pub fn push_number(out: &mut Bytes, n: u64) -> Result<(), NoMemory>
-    ensures items { OnOk result (out.new.items ≡ out.old.items ++ decimal n) }
-    ensures spare { OnOk result (length (decimal n) ≤ out.old.spare
-        → out.new.spare + length (decimal n) ≡ out.old.spare) }
-    ensures full { OnErr result (out.old.spare < length (decimal n)) }
-    ensures unchanged { OnErr result (out.new ≡ out.old) }
+    ensures { Pushed result out.old out.new (decimal n) }
 {
     let mut buffer = itoa::Buffer::new();
     push_piece(out, buffer.format(n).as_bytes())

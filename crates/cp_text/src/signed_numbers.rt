@@ -1,6 +1,7 @@
 // Decimal numbers of 64 bits with a sign.
-ghost use Rattle.std.specs.Prelude.{◌≡◌, ◌+◌, ◌<◌, ◌≤◌, ◌++◌, length, OnOk, OnErr};
+ghost use Rattle.std.specs.Prelude.{◌≡◌, ◌≤◌, length};
 ghost use Rattle.std.specs.Fmt.{signed_decimal};
+ghost use Rattle.cp_base.specs.Growth.{Appended, Pushed};
 ghost use Rattle.cp_text.specs.Signed.{negated, plain, signed_of};
 
 use crate::numbers::number;
@@ -44,8 +45,7 @@ fn negated(n: Option<u64>) -> Option<i64>
 /// Adds the text of a signed number at the end, for which there is room.
 pub fn append_signed(out: &mut Bytes, n: i64)
     requires { length (signed_decimal n) ≤ out.old.spare }
-    ensures items { out.new.items ≡ out.old.items ++ signed_decimal n }
-    ensures spare { out.new.spare + length (signed_decimal n) ≡ out.old.spare }
+    ensures { Appended out.old out.new (signed_decimal n) }
 {
     let mut buffer = itoa::Buffer::new();
     out.append(buffer.format(n).as_bytes());
@@ -54,11 +54,7 @@ pub fn append_signed(out: &mut Bytes, n: i64)
 /// Adds the text of a signed number at the end. It is refused only where there is less room than
 /// that.
 pub fn push_signed(out: &mut Bytes, n: i64) -> Result<(), NoMemory>
-    ensures items { OnOk result (out.new.items ≡ out.old.items ++ signed_decimal n) }
-    ensures spare { OnOk result (length (signed_decimal n) ≤ out.old.spare
-        → out.new.spare + length (signed_decimal n) ≡ out.old.spare) }
-    ensures full { OnErr result (out.old.spare < length (signed_decimal n)) }
-    ensures unchanged { OnErr result (out.new ≡ out.old) }
+    ensures { Pushed result out.old out.new (signed_decimal n) }
 {
     let mut buffer = itoa::Buffer::new();
     push_piece(out, buffer.format(n).as_bytes())

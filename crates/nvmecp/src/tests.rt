@@ -174,7 +174,7 @@ const CASES: [(&str, u8, &str); 28] = [
     ),
     // What is not built yet is no word.
     (
-        "nvmecp 1 block=512 depth=1 budget=1\nmem 1 bytes=16\nphase\nhost 1\nsend 1 setdelete set=1\n",
+        "nvmecp 1 block=512 depth=1 budget=1\nmem 1 bytes=16\nphase\nhost 1\nsend 1 abort cid=1\n",
         2,
         "line 5: Word\n",
     ),

@@ -7,7 +7,7 @@ use Rattle.cp_base.specs.declared.region.SpaceId.TheVariants as space
 use Rattle.cp_base.specs.declared.replies.Status.{Status}
 use Rattle.cp_base.specs.declared.replies.Status.TheVariants as status
 use Rattle.cp_text.specs.HexText.{hex_text}
-use Rattle.cp_text.proofs.HexTexts.{length-hex_text}
+use Rattle.cp_text.proofs.HexTexts.{hex_length}
 use Rattle.cp_base.specs.Words.{word_text}
 use Rattle.script_line.specs.Line.{line_text}
 use Rattle.script_cmds.specs.Text.{region_line, show_line}
@@ -22,7 +22,7 @@ use Rattle.replay_print.specs.Parts.{data_text, name_text, outcome_text}
 
 -- two digits for each byte, and four bytes round them
 pub length-data_text : (bytes : List ℕ) → length (data_text bytes) ≡ 2 * length bytes + 4
-length-data_text bytes = omega (arith, length-append (hex_text bytes) (10 ∷ []), length-hex_text bytes)
+length-data_text bytes = omega (arith, length-append (hex_text bytes) (10 ∷ []), hex_length bytes)
 
 -- a number of 32 bits has at most 10 digits
 pub length-lettered-le_small : (letters : List ℕ) (n : ℕ) → n < 2 ^ 32 → length (lettered letters n) ≤ length letters + 10
@@ -149,7 +149,7 @@ length-shown_text-le show bytes low_n low_start low_len few =
       arith,
       length-four (line_text (show_line show)) (codes " d=") (hex_text bytes) (10 ∷ []),
       region_line-le show.range.space show.range.start show.range.len low_n low_start low_len,
-      length-hex_text bytes,
+      hex_length bytes,
     )
 
 -- the four lines of a summary

@@ -1,4 +1,5 @@
 // The line of an entry.
+ghost use Rattle.cp_base.specs.Growth.{Appended, Pushed};
 ghost use Rattle.std.specs.Prelude.{◌≡◌, ◌+◌, ◌<◌, ◌≤◌, ◌++◌, length, OnOk, OnErr, IsOk};
 ghost use Rattle.replay_print.specs.Lines.{entry_line};
 ghost use Rattle.replay_print.specs.Parts.{name_text, outcome_text};
@@ -30,8 +31,7 @@ pub struct EntryLine<'a> {
 /// Adds the line of an entry at the end, for which there is room. The line's number `k` counts from 1.
 pub fn append_entry(out: &mut Bytes, k: u32, entry: &EntryLine)
     requires { length (entry_line k entry.now) ≤ out.old.spare }
-    ensures items { out.new.items ≡ out.old.items ++ entry_line k entry.now }
-    ensures spare { out.new.spare + length (entry_line k entry.now) ≡ out.old.spare }
+    ensures { Appended out.old out.new (entry_line k entry.now) }
 {
     append_name(out, k, entry.host, entry.ordinal, entry.cid);
     append_outcome(out, entry.word, entry.status, entry.result);
@@ -41,8 +41,7 @@ pub fn append_entry(out: &mut Bytes, k: u32, entry: &EntryLine)
 // Adds the front of a line: its number and the name of its command.
 fn append_name(out: &mut Bytes, k: u32, host: u32, ordinal: u32, cid: u32)
     requires { length (name_text k host ordinal cid) ≤ out.old.spare }
-    ensures items { out.new.items ≡ out.old.items ++ name_text k host ordinal cid }
-    ensures spare { out.new.spare + length (name_text k host ordinal cid) ≡ out.old.spare }
+    ensures { Appended out.old out.new (name_text k host ordinal cid) }
 {
     append_lettered(out, "#", k as u64);
     append_lettered(out, " h", host as u64);
@@ -53,8 +52,7 @@ fn append_name(out: &mut Bytes, k: u32, host: u32, ordinal: u32, cid: u32)
 // Adds the middle of a line: which command it is, and how it was answered.
 fn append_outcome(out: &mut Bytes, word: CommandWord, status: Status, value: u64)
     requires { length (outcome_text word status value) ≤ out.old.spare }
-    ensures items { out.new.items ≡ out.old.items ++ outcome_text word status value }
-    ensures spare { out.new.spare + length (outcome_text word status value) ≡ out.old.spare }
+    ensures { Appended out.old out.new (outcome_text word status value) }
 {
     out.append(b" ");
     out.append(word.text());
@@ -87,11 +85,7 @@ fn outcome_len(word: CommandWord, status: Status, value: u64) -> u64
 /// there is less room than the line needs, so never where there is room for the longest line and the
 /// data has at most 8,192 bytes.
 pub fn push_entry(out: &mut Bytes, k: u32, entry: &EntryLine) -> Result<(), NoMemory>
-    ensures items { OnOk result (out.new.items ≡ out.old.items ++ entry_line k entry.now) }
-    ensures spare { OnOk result (length (entry_line k entry.now) ≤ out.old.spare
-        → out.new.spare + length (entry_line k entry.now) ≡ out.old.spare) }
-    ensures full { OnErr result (out.old.spare < length (entry_line k entry.now)) }
-    ensures unchanged { OnErr result (out.new ≡ out.old) }
+    ensures { Pushed result out.old out.new (entry_line k entry.now) }
     ensures reserved { length entry.now.bytes.now ≤ 8192 → LONGEST_LINE ≤ out.old.spare → IsOk result }
 {
     let name = name_len(k, entry.host, entry.ordinal, entry.cid);

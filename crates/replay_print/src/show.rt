@@ -1,4 +1,5 @@
 // The line of a show.
+ghost use Rattle.cp_base.specs.Growth.{Appended, Pushed};
 ghost use Rattle.std.specs.Prelude.{◌≡◌, ◌+◌, ◌<◌, ◌≤◌, ◌++◌, length, OnOk, OnErr, IsOk};
 ghost use Rattle.script_line.specs.Line.{line_text};
 ghost use Rattle.script_cmds.specs.Text.{show_line};
@@ -12,8 +13,7 @@ use script_cmds::Show;
 /// Adds the line of a show with its bytes at the end, for which there is room.
 pub fn append_show(out: &mut Bytes, show: &Show, bytes: &[u8])
     requires { length (shown_text show.now bytes.now) ≤ out.old.spare }
-    ensures items { out.new.items ≡ out.old.items ++ shown_text show.now bytes.now }
-    ensures spare { out.new.spare + length (shown_text show.now bytes.now) ≡ out.old.spare }
+    ensures { Appended out.old out.new (shown_text show.now bytes.now) }
 {
     append_range(out, show);
     append_data(out, bytes);
@@ -22,8 +22,7 @@ pub fn append_show(out: &mut Bytes, show: &Show, bytes: &[u8])
 // Adds the line of a show as a script has it.
 fn append_range(out: &mut Bytes, show: &Show)
     requires { length (line_text (show_line show.now)) ≤ out.old.spare }
-    ensures items { out.new.items ≡ out.old.items ++ line_text (show_line show.now) }
-    ensures spare { out.new.spare + length (line_text (show_line show.now)) ≡ out.old.spare }
+    ensures { Appended out.old out.new (line_text (show_line show.now)) }
 {
     match show.range.space() {
         SpaceId::Nvm(n) => append_lettered(out, "show nvm ", n as u64),
@@ -48,11 +47,7 @@ fn range_len(show: &Show) -> u64
 /// Adds the line of a show with its bytes at the end. It is refused only where there is less room than
 /// the line needs, so never where there is room for the longest line and there are at most 8,192 bytes.
 pub fn push_show(out: &mut Bytes, show: &Show, bytes: &[u8]) -> Result<(), NoMemory>
-    ensures items { OnOk result (out.new.items ≡ out.old.items ++ shown_text show.now bytes.now) }
-    ensures spare { OnOk result (length (shown_text show.now bytes.now) ≤ out.old.spare
-        → out.new.spare + length (shown_text show.now bytes.now) ≡ out.old.spare) }
-    ensures full { OnErr result (out.old.spare < length (shown_text show.now bytes.now)) }
-    ensures unchanged { OnErr result (out.new ≡ out.old) }
+    ensures { Pushed result out.old out.new (shown_text show.now bytes.now) }
     ensures reserved { length bytes.now ≤ 8192 → LONGEST_LINE ≤ out.old.spare → IsOk result }
 {
     make_line_room(out, range_len(show), bytes)?;

@@ -1,4 +1,5 @@
 // The summary of a history.
+ghost use Rattle.cp_base.specs.Growth.{Appended, Pushed};
 ghost use Rattle.std.specs.Prelude.{◌≡◌, ◌+◌, ◌<◌, ◌≤◌, ◌++◌, length, OnOk, OnErr, IsOk};
 ghost use Rattle.replay_print.specs.Lines.{summary_lines};
 ghost use Rattle.replay_print.specs.Parts.{count_text};
@@ -6,7 +7,6 @@ ghost use Rattle.replay_print.specs.Parts.{count_text};
 use crate::laws::LONGEST_LINE;
 use crate::pieces::{append_lettered, lettered_len};
 use cp_base::{Bytes, NoMemory};
-use cp_text::make_room;
 
 /// The numbers of a history's summary.
 #[derive(Clone, Copy, Debug, PartialEq, Eq)]
@@ -24,8 +24,7 @@ pub struct Summary {
 /// Adds the four lines of a summary at the end, for which there is room.
 pub fn append_summary(out: &mut Bytes, s: &Summary)
     requires { length (summary_lines s.now) ≤ out.old.spare }
-    ensures items { out.new.items ≡ out.old.items ++ summary_lines s.now }
-    ensures spare { out.new.spare + length (summary_lines s.now) ≡ out.old.spare }
+    ensures { Appended out.old out.new (summary_lines s.now) }
 {
     append_count(out, "commands ", s.commands as u64);
     append_count(out, "ok ", s.ok as u64);
@@ -36,8 +35,7 @@ pub fn append_summary(out: &mut Bytes, s: &Summary)
 // Adds a line of the summary at the end, for which there is room.
 fn append_count(out: &mut Bytes, letters: &str, n: u64)
     requires { length (count_text letters.now n) ≤ out.old.spare }
-    ensures items { out.new.items ≡ out.old.items ++ count_text letters.now n }
-    ensures spare { out.new.spare + length (count_text letters.now n) ≡ out.old.spare }
+    ensures { Appended out.old out.new (count_text letters.now n) }
 {
     append_lettered(out, letters, n);
     out.append(b"\n");
@@ -58,14 +56,10 @@ fn summary_len(s: &Summary) -> u64
 /// Adds the four lines of a summary at the end. It is refused only where there is less room than they
 /// need, so never where there is room for the longest line.
 pub fn push_summary(out: &mut Bytes, s: &Summary) -> Result<(), NoMemory>
-    ensures items { OnOk result (out.new.items ≡ out.old.items ++ summary_lines s.now) }
-    ensures spare { OnOk result (length (summary_lines s.now) ≤ out.old.spare
-        → out.new.spare + length (summary_lines s.now) ≡ out.old.spare) }
-    ensures full { OnErr result (out.old.spare < length (summary_lines s.now)) }
-    ensures unchanged { OnErr result (out.new ≡ out.old) }
+    ensures { Pushed result out.old out.new (summary_lines s.now) }
     ensures reserved { LONGEST_LINE ≤ out.old.spare → IsOk result }
 {
-    make_room(out, summary_len(s))?;
+    out.reserve(summary_len(s))?;
     append_summary(out, s);
     Ok(())
 }

@@ -96,12 +96,7 @@ fn faults(rt: HostRuntime) -> Result<(), Fail> {
             5,
             TextCause::Word,
         ),
-        (
-            FRONT,
-            "send 1 abort cid=1\n",
-            5,
-            TextCause::Word,
-        ),
+        (FRONT, "send 1 abort cid=1\n", 5, TextCause::Word),
         (
             FRONT,
             "send  1 memread ns=1 at=0 len=1\n",

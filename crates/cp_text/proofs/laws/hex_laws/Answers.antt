@@ -1,4 +1,4 @@
-use Rattle.cp_text.proofs.HexTexts.{hex_of-spelled, hex_of-text, hex_text-are_digits, hex_text-one, length-hex_text}
+use Rattle.cp_text.proofs.HexTexts.{hex_of-spelled, hex_of-text, hex_text-are_digits, hex_text-one, hex_length}
 use Rattle.cp_text.proofs.laws.hex_laws.Goals as goal
 
 pub returns-clause-spelled_so : goal.returns-clause-spelled_so
@@ -14,4 +14,4 @@ pub returns-clause-digits : goal.returns-clause-digits
 returns-clause-digits c = hex_text-are_digits
 
 pub returns-clause-len : goal.returns-clause-len
-returns-clause-len c = length-hex_text
+returns-clause-len c = hex_length
