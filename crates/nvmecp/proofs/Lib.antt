@@ -4,6 +4,7 @@ pub mod Endings
 pub mod Fronts
 pub mod Inputs
 pub mod Legal
+pub mod OneOutput
 pub mod Printed
 pub mod Shows
 pub mod Steps

@@ -1,12 +1,7 @@
 -- Code of programs as the words read and write it. This project's own.
-use Rattle.std.specs.Prelude.{ℕ, ◌-◌, ◌≤◌, List, [], ◌∷◌, ◌++◌, Option, None, if◌then◌else◌, length, take, drop}
+use Rattle.std.specs.Prelude.{ℕ, ◌-◌, List, [], ◌∷◌, ◌++◌, Option, None, if◌then◌else◌, length, take, drop}
 use Rattle.std.specs.Str.{bytes_eq}
 use Rattle.cp_text.specs.HexText.{hex_of, hex_text}
-use Rattle.bpf_model.specs.Walk.{IsWellFormed}
-
--- the most bytes of code
-abbrev pub max_code : ℕ
-max_code = 65536
 
 -- code in hex, with its newline
 abbrev pub hex_line : List ℕ → List ℕ
@@ -15,8 +10,3 @@ hex_line code = hex_text code ++ 10 ∷ []
 -- the bytes that an input is in hex, with one newline behind them
 abbrev pub code_in : List ℕ → Option (List ℕ)
 code_in input = if bytes_eq (drop (length input - 1) input) (10 ∷ []) then hex_of (take (length input - 1) input) else None
-
--- code that is well formed and not too long
-pub record IsProgram (code : List ℕ) : Type 0 where
-  pub well_formed : IsWellFormed code
-  pub limit : length code ≤ max_code

@@ -1,46 +1,55 @@
 -- The word `step`: a script is carried out and its history printed. This project's own.
-use Rattle.std.specs.Prelude.{◌≡◌, ℕ, ◌⊎◌, List, Ok, Err, None, Some, IsOk, IsErr}
+use Rattle.std.specs.Prelude.{◌≡◌, ℕ, ◌⊎◌, All, List, Ok, Err, None, Some, IsOk, IsErr}
 use Rattle.script_cmds.specs.declared.fault.ScriptFault.{ScriptFault}
 use Rattle.script_cmds.specs.declared.item.Phase.{Phase}
 use Rattle.script_cmds.specs.declared.script.Script.{Script}
 use Rattle.script_cmds.specs.Fault.{first_fault}
-use Rattle.script_cmds.specs.Text.{script_text}
+use Rattle.script_line.specs.Sized.{AreSized}
+use Rattle.script_cmds.specs.Text.{lines_of, script_text}
 use Rattle.history_model.specs.Entry.{Entry}
 use Rattle.history_model.specs.Legal.{IsLegal}
 use Rattle.history_model.specs.Plan.{PlanFault, plan_of}
+use Rattle.history_model.specs.Sized.{IsSizedEntry}
 use Rattle.history_model.specs.Text.{history_text}
 use Rattle.nvmecp.specs.Refusal.{breach_line, fault_line}
 use Rattle.nvmecp.specs.Task.{Task, max_input}
 
+-- The input is the text of a script, whose numbers have 64 bits and whose data are bytes.
+pub record IsTextOf (script : Script) (input : List ℕ) : Type 0 where
+  pub sized : AreSized (lines_of script)
+  pub read : script_text script ≡ input
+
 -- The input is accepted: no line of it is faulty, and the script whose text it is has a plan.
 pub record HasPlan (input : List ℕ) : Type 0 where
   pub faultless : first_fault input ≡ None
-  pub planned : (script : Script) → script_text script ≡ input → IsOk (plan_of script)
+  pub planned : (script : Script) → IsTextOf script input → IsOk (plan_of script)
 
 -- The input is rejected: a line of it is faulty, or the script whose text it is has no plan.
 abbrev pub HasNoPlan : List ℕ → Type 0
-HasNoPlan input = (first_fault input ≡ None → ⊥) ⊎ ((script : Script) → script_text script ≡ input → IsErr (plan_of script))
+HasNoPlan input = (first_fault input ≡ None → ⊥) ⊎ ((script : Script) → IsTextOf script input → IsErr (plan_of script))
 
--- The text is that of a history that is legal for the plan of a script.
+-- The text is that of a history that is legal for the plan of a script. Its numbers have 64 bits, and what
+-- was read are bytes: so the text tells the history.
 pub record IsPrintOf (script : Script) (text : List ℕ) : Type 0 where
   pub plan : List Phase
   pub planned : plan_of script ≡ Ok plan
   pub history : List Entry
   pub legal : IsLegal script.config plan history
+  pub sized : All IsSizedEntry history
   pub printed : text ≡ history_text script.config script.shows history
 
 -- The input is a script, and the text is that of a history that is legal for its plan.
 pub record IsHistory (input : List ℕ) (text : List ℕ) : Type 0 where
   pub faultless : first_fault input ≡ None
   pub script : Script
-  pub read : script_text script ≡ input
+  pub read : IsTextOf script input
   pub print : IsPrintOf script text
 
 -- What is told of an input that is no script with a plan: its first faulty line, or, where no line is
 -- faulty, the first line that breaks a rule of queues.
 pub data TellsScript (input : List ℕ) (text : List ℕ) : Type 0 where
   Faulty : (fault : ScriptFault) → first_fault input ≡ Some fault → text ≡ fault_line fault → TellsScript input text
-  Unplanned : (script : Script) (fault : PlanFault) → first_fault input ≡ None → script_text script ≡ input
+  Unplanned : (script : Script) (fault : PlanFault) → first_fault input ≡ None → IsTextOf script input
       → plan_of script ≡ Err fault → text ≡ breach_line fault → TellsScript input text
 
 -- what `step` does with its input

@@ -9,13 +9,10 @@ use crate::printing::answer_lines;
 use crate::refusing::{refuse_line, refuse_place};
 use bpf_asm::disassemble;
 use bpf_decode::DecodeEnd;
-use cp_base::{Bytes, NoMemory};
+use cp_base::{Bytes, MAX_PROGRAM, NoMemory};
 use cp_io::Sink;
 use cp_text::hex_bytes;
 use std::alloc::Global;
-
-/// The most bytes of code.
-const MAX_CODE: u64 = 65_536;
 
 // The code that an input is in hex, with one newline behind it. `None` where it is none.
 fn code_of(alloc: Global, input: &[u8]) -> Result<Option<Bytes>, NoMemory>
@@ -38,7 +35,7 @@ pub fn answer<K: Sink>(alloc: Global, input: &Bytes, sink: &mut K) -> Ending
         Ok(None) => return refuse_line(alloc, sink, 1, "Hex"),
         Err(NoMemory) => return Ending::NoMemory,
     };
-    if code.len() > MAX_CODE {
+    if code.len() > MAX_PROGRAM {
         return refuse_line(alloc, sink, 1, "Limit");
     }
     match disassemble(alloc, &code) {

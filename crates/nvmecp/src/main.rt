@@ -12,6 +12,7 @@ mod asm;
 mod dis;
 mod ending;
 mod in_order;
+mod laws;
 mod printing;
 mod refusing;
 mod run;

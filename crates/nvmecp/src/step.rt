@@ -1,6 +1,8 @@
 // The word `step`: a script is carried out and its history printed.
 ghost use Rattle.std.specs.Prelude.{◌≡◌, ◌≢◌, ◌≤◌, ◌⊎◌, Ok, IsTrue, length};
+ghost use Rattle.script_line.specs.Sized.{AreSized};
 ghost use Rattle.script_cmds.specs.Kept.{KeepsOrderAndLimits, are_built};
+ghost use Rattle.script_cmds.specs.Text.{lines_of};
 ghost use Rattle.history_model.specs.Plain.{plain_phase, plain_phases};
 ghost use Rattle.history_model.specs.Plan.{plan_of};
 ghost use Rattle.history_model.specs.Sent.{sends_of};
@@ -26,6 +28,7 @@ fn carry_out<K: Sink>(alloc: Global, script: &Script, plan: &Plan, sink: &mut K)
     requires given { (given : _) → plan_of script.now ≡ Ok given → sends_of given ≡ sends_of plan.now.phases }
     requires built { IsTrue (are_built script.now) }
     requires kept { KeepsOrderAndLimits script.now }
+    requires sized { AreSized (lines_of script.now) }
     ensures ends { EndsAnswered (IsPrintOf script.now) K.held K.faults sink.old sink.new result }
     ensures answered { result ≢ Ending.Refused }
 {

@@ -26,7 +26,7 @@ print-requires-clause-inside g c =
 pub returns-in-Ok-print-clause-ends : goal.returns-in-Ok-print-clause-ends
 returns-in-Ok-print-clause-ends g c = record {
   text = finished_text c.in-Ok.finished c.args.script.now.shows;
-  due = print_of c.args.script.now c.args.plan.now.phases c.in-Ok.finished c.requires.planned c.requires.given c.in-Ok.ensures;
+  due = print_of c.args.script.now c.args.plan.now.phases c.in-Ok.finished c.requires.sized c.requires.kept c.requires.planned c.requires.given c.in-Ok.ensures;
   written = subst (λ (shows : List Show). Appends (g.K.Sink.held c.args.sink.now) (g.K.Sink.held c.print.new.sink) (finished_text c.in-Ok.finished shows)) c.as_slice.ensures c.in-Ok-print.ensures.all;
 }
 
@@ -34,7 +34,7 @@ pub returns-in-Err-print-clause-ends : goal.returns-in-Err-print-clause-ends
 returns-in-Err-print-clause-ends g c = (
   record {
     text = finished_text c.in-Ok.finished c.args.script.now.shows;
-    due = inl (print_of c.args.script.now c.args.plan.now.phases c.in-Ok.finished c.requires.planned c.requires.given c.in-Ok.ensures);
+    due = inl (print_of c.args.script.now c.args.plan.now.phases c.in-Ok.finished c.requires.sized c.requires.kept c.requires.planned c.requires.given c.in-Ok.ensures);
     front = subst (λ (shows : List Show). AppendsFront (g.K.Sink.held c.args.sink.now) (g.K.Sink.held c.print.new.sink) (finished_text c.in-Ok.finished shows)) c.as_slice.ensures c.in-Err-print.ensures.front;
   },
   c.in-Err-print.ensures.fault,

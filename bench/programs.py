@@ -1,0 +1,57 @@
+#!/usr/bin/env python3
+"""Times programs as commands load and execute them.
+
+    python3 bench/programs.py
+
+The time of an instruction in one long `execute` of a script stands beside that of the same loop in bpf_bench, in the
+same run; programs that are loaded byte by byte, the last byte first, beside half as many bytes.
+"""
+
+from bpf import timed
+from measure import best_of, build, doubled
+
+BUDGET = 10_000_000
+WORDS = ["step", "1", "0"]
+HEAD = f"nvmecp 1 block=512 depth=16 budget={BUDGET}\nmem 1 bytes=16\n"
+# The loop of bpf_bench: counts up to the first parameter.
+LOOP = "b7000000000000000700000001000000ad10feff000000009500000000000000"
+EXECUTION = (
+    f"phase\nhost 1\nsend 1 setcreate ranges=1:0:16\ntake 1\nsend 2 load slot=0 size=32 at=0 data={LOOP}\ntake 2\n"
+    "send 3 activate slot=0\ntake 3\nsend 4 execute slot=0 set=1 p1=1000000000000 p2=0 budget="
+)
+PIECES = [4_096, 8_192, 16_384]
+
+
+def instruction():
+    """Nanoseconds of an instruction in an execution of a script, and in bpf_bench."""
+    short = best_of(5, WORDS, (HEAD + EXECUTION + "1000\n").encode(), 0)
+    long = best_of(5, WORDS, (HEAD + EXECUTION + f"{BUDGET}\n").encode(), 0)
+    in_script = (long.seconds - short.seconds) * 1e9 / (BUDGET - 1000)
+    rounds = BUDGET // 2
+    begun = min(timed("loop", 1) for _ in range(5))
+    whole = min(timed("loop", rounds) for _ in range(5))
+    return in_script, (whole[0] - begun[0]) * 1e9 / (whole[1] - begun[1])
+
+
+def lone_bytes(count):
+    """A program of so many bytes, each of which is a piece, the last one first."""
+    lines = ["phase", "host 1"]
+    for at in reversed(range(count)):
+        lines += [f"send 1 load slot=0 size={count} at={at} data=95", "take 1"]
+    return (HEAD + "\n".join(lines) + "\n").encode()
+
+
+def main():
+    build()
+    build("bpf_bench")
+    in_script, alone = instruction()
+    print(f"an instruction of an execution of {BUDGET}: {in_script:.2f} ns, in bpf_bench {alone:.2f} ns, ratio {in_script / alone:.2f}")
+    empty = best_of(15, WORDS, HEAD.encode(), 0, keep=False)
+    print(f"{'lone bytes':10} {'ms':>9} {'us each':>8} {'ratio':>6}")
+    rows = [(count, best_of(5, WORDS, lone_bytes(count), 0, keep=False)) for count in PIECES]
+    for count, _, seconds, ratio in doubled(rows, empty):
+        print(f"{count:10} {seconds * 1e3:9.2f} {seconds / count * 1e6:8.3f} {ratio:>6}")
+
+
+if __name__ == "__main__":
+    main()

@@ -1,0 +1,17 @@
+use Rattle.nvmecp.proofs.OneOutput.{assembled, disassembled, one_end, one_history, refused}
+use Rattle.nvmecp.proofs.laws.one_output.Goals as goal
+
+pub returns-clause-assembled : goal.returns-clause-assembled
+returns-clause-assembled c = assembled
+
+pub returns-clause-disassembled : goal.returns-clause-disassembled
+returns-clause-disassembled c = disassembled
+
+pub returns-clause-refused : goal.returns-clause-refused
+returns-clause-refused c = refused
+
+pub returns-clause-one_end : goal.returns-clause-one_end
+returns-clause-one_end c = one_end
+
+pub returns-clause-one_history : goal.returns-clause-one_history
+returns-clause-one_history c = one_history

@@ -1,0 +1,22 @@
+// The law of one output. The function does nothing; its clauses are the law.
+ghost use Rattle.std.specs.Prelude.{◌≡◌, ◌≤◌, ℕ, List, length};
+ghost use Rattle.nvmecp.specs.Asm.{IsAssembly};
+ghost use Rattle.nvmecp.specs.Dis.{IsDisassembly};
+ghost use Rattle.nvmecp.specs.Step.{IsPrintOf};
+ghost use Rattle.nvmecp.specs.Task.{IsRefusal};
+ghost use Rattle.nvmecp.specs.Words.{task_of};
+ghost use Rattle.script_cmds.specs.Kept.{KeepsOrderAndLimits};
+ghost use Rattle.nvmecp.specs.declared.words.Asked.{Asked};
+
+/// One question and one input have one output: two texts that answer it are equal for `asm` and `dis`, two
+/// texts that refuse it are equal for each word, and no input is both answered and refused. A script may have
+/// several histories, but a text tells one of them.
+pub fn one_output()
+    ensures assembled { (input one other : List ℕ) → IsAssembly input one → IsAssembly input other → one ≡ other }
+    ensures disassembled { (input one other : List ℕ) → IsDisassembly input one → IsDisassembly input other → one ≡ other }
+    ensures refused { (asked : Asked) (input one other : List ℕ) → IsRefusal (task_of asked) input one
+        → IsRefusal (task_of asked) input other → one ≡ other }
+    ensures one_end { (asked : Asked) (input one other : List ℕ) → length input ≤ (task_of asked).limit
+        → (task_of asked).Answers input one → IsRefusal (task_of asked) input other → ⊥ }
+    ensures one_history { (script : _) (text : List ℕ) → (one other : IsPrintOf script text) → one.history ≡ other.history }
+{}
