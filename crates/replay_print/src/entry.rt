@@ -85,7 +85,7 @@ fn outcome_len(word: CommandWord, status: Status, value: u64) -> u64
 /// there is less room than the line needs, so never where there is room for the longest line and the
 /// data has at most 8,192 bytes.
 pub fn push_entry(out: &mut Bytes, k: u32, entry: &EntryLine) -> Result<(), NoMemory>
-    ensures { Pushed result out.old out.new (entry_line k entry.now) }
+    ensures pushed { Pushed result out.old out.new (entry_line k entry.now) }
     ensures reserved { length entry.now.bytes.now ≤ 8192 → LONGEST_LINE ≤ out.old.spare → IsOk result }
 {
     let name = name_len(k, entry.host, entry.ordinal, entry.cid);

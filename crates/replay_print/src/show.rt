@@ -47,7 +47,7 @@ fn range_len(show: &Show) -> u64
 /// Adds the line of a show with its bytes at the end. It is refused only where there is less room than
 /// the line needs, so never where there is room for the longest line and there are at most 8,192 bytes.
 pub fn push_show(out: &mut Bytes, show: &Show, bytes: &[u8]) -> Result<(), NoMemory>
-    ensures { Pushed result out.old out.new (shown_text show.now bytes.now) }
+    ensures pushed { Pushed result out.old out.new (shown_text show.now bytes.now) }
     ensures reserved { length bytes.now ≤ 8192 → LONGEST_LINE ≤ out.old.spare → IsOk result }
 {
     make_line_room(out, range_len(show), bytes)?;

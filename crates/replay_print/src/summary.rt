@@ -56,7 +56,7 @@ fn summary_len(s: &Summary) -> u64
 /// Adds the four lines of a summary at the end. It is refused only where there is less room than they
 /// need, so never where there is room for the longest line.
 pub fn push_summary(out: &mut Bytes, s: &Summary) -> Result<(), NoMemory>
-    ensures { Pushed result out.old out.new (summary_lines s.now) }
+    ensures pushed { Pushed result out.old out.new (summary_lines s.now) }
     ensures reserved { LONGEST_LINE ≤ out.old.spare → IsOk result }
 {
     out.reserve(summary_len(s))?;

@@ -1,4 +1,4 @@
-use Rattle.std.proofs.Common.{◌≡◌, ◌+◌, length, arith}
+use Rattle.std.proofs.Common.{◌≡◌, ◌+◌, ◌<◌, length, refl, arith}
 use Rattle.replay_print.proofs.Lengths.{length-data_text, ok_unless}
 use Rattle.replay_print.specs.Parts.{data_text}
 use Rattle.replay_print.proofs.pieces.make_line_room.Goals as goal
