@@ -1,5 +1,5 @@
 -- No check and no effect tells that a command was withdrawn.
-use Rattle.std.proofs.Common.{◌≡◌, ℕ, Bool, true, false, is_none, if◌then◌else◌, List, [], ◌∷◌, ◌++◌, map, length, Option, Some, None, IfSome, option_map}
+use Rattle.std.proofs.Common.{◌≡◌, ℕ, Bool, true, false, is_none, if◌then◌else◌, List, [], ◌∷◌, ◌++◌, map, length, Option, Some, None, IfSome, option_map, subst}
 use Rattle.std.specs.Prelude.{◌≢◌}
 use Rattle.std.specs.List.{AllByRecursion}
 use Rattle.std.specs.Option.{option_or}
@@ -20,6 +20,7 @@ use Rattle.device_model.specs.Effect.{effect_of}
 use Rattle.device_model.specs.Execution.{Outcome, told_of}
 use Rattle.device_model.specs.State.{Slot, State, slot_at}
 use Rattle.device_model.specs.Step.{outcome_of, refused_or_done}
+use Rattle.seq_device.specs.Standing.{Standing, IsDone}
 
 -- a status that does not tell a withdrawn command
 abbrev pub IsOther : Status → Type 0
@@ -119,13 +120,17 @@ either_other : (first : Option Status) (then_ : Option Answer) → IfSome first 
 either_other None then_ a b = b
 either_other (Some s) then_ a b = a
 
-done_other : (s : State) (refusal : Option Answer) (effect : Outcome) → IfSome refusal IsOtherAnswer → IsOtherAnswer effect.answer → IsOtherAnswer (refused_or_done s refusal effect).answer
-done_other s None effect a b = b
-done_other s (Some answer) effect a b = a
+refused_or_done_other : (s : State) (refusal : Option Answer) (effect : Outcome) → IfSome refusal IsOtherAnswer → IsOtherAnswer effect.answer → IsOtherAnswer (refused_or_done s refusal effect).answer
+refused_or_done_other s None effect a b = b
+refused_or_done_other s (Some answer) effect a b = a
 
 -- what the device answers where there is memory does not tell a withdrawn command
 pub outcome_other : (c : Configuration) (s : State) (cmd : Command) → IsOther (outcome_of c s cmd).answer.status
 outcome_other c s cmd =
-    done_other s (refusal_of c s cmd) (effect_of c s cmd)
+    refused_or_done_other s (refusal_of c s cmd) (effect_of c s cmd)
     (either_other (first_failing (checks_of c s cmd)) (refusal_of_program s cmd) (first_other (checks_of c s cmd) (others c s cmd)) (program_other s cmd))
     (effect_other c s cmd)
+
+-- the same of what is carried out or refused
+pub done_other : (old : Standing) (cmd : Command) (answer : Answer) (new : Standing) → IsDone old cmd answer new → IsOther answer.status
+done_other old cmd answer new done = subst (λ (outcome : Outcome). IsOther outcome.answer.status) done.0 (outcome_other old.config old.state cmd)

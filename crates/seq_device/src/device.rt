@@ -3,37 +3,41 @@ ghost use Rattle.std.specs.Prelude.{◌≡◌, ◌≢◌, ◌⊎◌, ◌+◌, �
 ghost use Rattle.cp_base.specs.Configuration.{size_of};
 ghost use Rattle.cp_base.specs.Answer.{answer_of, only_status};
 ghost use Rattle.cp_base.specs.Contents.{bytes_in, bytes_of};
-ghost use Rattle.built_commands.specs.Built.{is_built};
+ghost use Rattle.cp_base.specs.Words.{word_of};
 ghost use Rattle.device_model.specs.State.{opening};
 ghost use Rattle.device_model.specs.Step.{DeviceStep};
 ghost use Rattle.seq_device.specs.Standing.{IsCarriedOut, IsDone, was_read, with_put, works_in_place};
 
-use crate::replies::{only, read};
-use cp_base::{ByteRange, Bytes, Command, Config, MAX_TRANSFER, NoMemory, Reply, SpaceId, Status};
+use crate::replies::{only, read, told};
+use cp_base::{
+    ByteRange, Bytes, Command, CommandWord, Config, MAX_TRANSFER, NoMemory, Reply, SpaceId, Status,
+};
+use program_slots::Slots;
+use range_sets::Sets;
 use slm_bytes::Flat;
 use std::alloc::Global;
 use std::marker::Model;
 
 /// A device that carries out one command after the other. Contracts see its configuration and its
-/// state, and nothing of how the bytes are kept.
+/// state, and nothing of how it is kept.
 #[derive(Debug, Drop)]
 pub struct SeqDevice {
     pub(crate) alloc: Global,
     pub(crate) config: Config,
     pub(crate) flat: Flat,
+    pub(crate) slots: Slots,
+    pub(crate) sets: Sets,
 }
 
 impl Model for SeqDevice {
-    ghost use Rattle.std.specs.Prelude.{replicate, []};
-    ghost use Rattle.cp_base.specs.declared.limits.TheConstants.{SLOTS};
-    ghost use Rattle.device_model.specs.State.{Empty};
+    ghost use Rattle.range_sets.specs.Fit.{AllFit};
     ghost use Rattle.seq_device.specs.Standing.{Standing, HasSizes};
 
     ghost Value = { Standing };
 
-    ghost view = { λ d. record { config = d.config; state = record { contents = d.flat; slots = replicate SLOTS Empty; sets = [] } } };
+    ghost view = { λ d. record { config = d.config; state = record { contents = d.flat; slots = d.slots; sets = d.sets } } };
 
-    ghost invariant = { λ d. HasSizes d.config d.flat };
+    ghost invariant = { λ d. HasSizes d.config d.flat × AllFit d.config d.sets };
 }
 
 impl SeqDevice {
@@ -42,10 +46,14 @@ impl SeqDevice {
         ensures { IfOk result (λ device. device ≡ record { config = config.now; state = opening config.now }) }
     {
         let flat = Flat::new(alloc, config)?;
+        let slots = Slots::new(alloc)?;
+        let sets = Sets::new(alloc)?;
         Ok(SeqDevice {
             alloc,
             config: *config,
             flat,
+            slots,
+            sets,
         })
     }
 
@@ -53,7 +61,7 @@ impl SeqDevice {
     /// Carries out a command. Where it needs memory that is not there, the reply is `NoMemory` and
     /// nothing is changed.
     pub fn step(&mut self, command: &Command) -> Reply
-        requires { IsTrue (is_built command.now) }
+        requires moves_no_program { word_of command.now ≢ CommandWord.Execute }
         ensures step { DeviceStep self.old.config self.old.state command.now (answer_of result) self.new.state }
         ensures carried { IsCarriedOut self.old command.now (answer_of result) self.new }
         ensures in_place { IsTrue (works_in_place command.now) → IsDone self.old command.now (answer_of result) self.new }
@@ -69,7 +77,19 @@ impl SeqDevice {
             Command::MemRead { ns, at, len } => self.read_memory(*ns, *at, *len),
             Command::MemWrite { ns, at, bytes } => self.write_memory(*ns, *at, bytes),
             Command::MemFill { ns, at, len, value } => self.fill_memory(*ns, *at, *len, *value),
-            _ => unreachable!(),
+            Command::SetCreate { ranges } => self.create_set(ranges),
+            Command::SetDelete { set } => self.delete_set(*set),
+            Command::Load {
+                slot,
+                size,
+                at,
+                bytes,
+            } => self.load_piece(*slot, *size, *at, bytes),
+            Command::Unload { slot } => self.unload(*slot),
+            Command::Activate { slot } => self.activate(*slot),
+            Command::Deactivate { slot } => self.deactivate(*slot),
+            Command::Execute { .. } => unreachable!(),
+            Command::Abort { .. } => told(self.alloc, Status::Ok, 1),
         }
     }
 

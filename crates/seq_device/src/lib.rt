@@ -6,6 +6,8 @@ mod copies;
 mod device;
 mod memory;
 mod replies;
+mod sets;
+mod slots;
 #[cfg(test)]
 mod tests;
 

@@ -1,9 +1,10 @@
 // Replies.
-ghost use Rattle.std.specs.Prelude.{◌≡◌};
+ghost use Rattle.std.specs.Prelude.{◌≡◌, IfErr, OnOk};
 ghost use Rattle.cp_base.specs.Answer.{answer_of, only_status};
 ghost use Rattle.device_model.specs.Execution.{tells};
+ghost use Rattle.program_slots.specs.Refusals.{told_by_refusal};
 
-use cp_base::{Bytes, Reply, Status};
+use cp_base::{Bytes, Refusal, Reply, Status};
 use std::alloc::Global;
 
 /// A reply of a status alone.
@@ -21,6 +22,17 @@ pub(crate) fn told(alloc: Global, status: Status, number: u64) -> Reply
         status,
         result: number,
         bytes: Bytes::new(alloc),
+    }
+}
+
+/// The reply to a command that was done, or else was refused so.
+pub(crate) fn done_or_refused(alloc: Global, answer: Result<(), Refusal>) -> Reply
+    ensures done { OnOk answer (answer_of result ≡ only_status Status.Ok) }
+    ensures refused { IfErr answer (λ refusal. answer_of result ≡ told_by_refusal refusal) }
+{
+    match answer {
+        Ok(()) => only(alloc, Status::Ok),
+        Err(refusal) => told(alloc, refusal.status, refusal.result),
     }
 }
 

@@ -1,6 +1,8 @@
 // What no clause says: that calls succeed where there is memory, and worked examples.
 use crate::SeqDevice;
-use cp_base::{Bytes, Command, Config, CopySource, SourceList, SpaceId, Status};
+use cp_base::{
+    Access, Bytes, Command, Config, CopySource, MemRange, RangeList, SourceList, SpaceId, Status,
+};
 use std::alloc::Global;
 
 // A device with memory namespace 1 of so many bytes.
@@ -147,5 +149,119 @@ fn fills_and_blocks_are_checked(rt: HostRuntime) {
             Some((fill, zeroes, zeroes, bytes)),
             "{len} bytes, {count} blocks"
         );
+    }
+}
+
+// `mov64 r0 7`, and `exit`.
+const SET: [u8; 8] = [0xb7, 0, 0, 0, 7, 0, 0, 0];
+
+const EXIT: [u8; 8] = [0x95, 0, 0, 0, 0, 0, 0, 0];
+
+// A command that moves no bytes of namespaces: on a set, on a slot, or none of both.
+#[derive(Clone, Copy, Debug)]
+enum Step {
+    Create(MemRange),
+    CreateOfTwo(MemRange, MemRange),
+    Delete(u32),
+    Load(u32, u64, u64, [u8; 8]),
+    Unload(u32),
+    Activate(u32),
+    Deactivate(u32),
+    Abort(u32),
+}
+
+fn range(at: u64, len: u64) -> MemRange {
+    MemRange {
+        ns: 1,
+        at,
+        len,
+        access: Access::ReadWrite,
+    }
+}
+
+// The status and the result of a command on a device.
+fn told(alloc: Global, device: &mut SeqDevice, step: Step) -> Option<(Status, u64)> {
+    let reply = match step {
+        Step::Create(range) => {
+            let ranges = RangeList::new(alloc, &[range])?;
+            device.step(&Command::SetCreate { ranges })
+        }
+        Step::CreateOfTwo(first, second) => {
+            let ranges = RangeList::new(alloc, &[first, second])?;
+            device.step(&Command::SetCreate { ranges })
+        }
+        Step::Delete(set) => device.step(&Command::SetDelete { set }),
+        Step::Load(slot, size, at, piece) => {
+            let bytes = Bytes::from_slice(alloc, &piece).ok()?;
+            device.step(&Command::Load {
+                slot,
+                size,
+                at,
+                bytes,
+            })
+        }
+        Step::Unload(slot) => device.step(&Command::Unload { slot }),
+        Step::Activate(slot) => device.step(&Command::Activate { slot }),
+        Step::Deactivate(slot) => device.step(&Command::Deactivate { slot }),
+        Step::Abort(cid) => device.step(&Command::Abort { cid }),
+    };
+    Some((reply.status, reply.result))
+}
+
+#[test]
+fn sets_are_numbered(rt: HostRuntime) {
+    let mut device = device(rt.alloc(), 16).expect(&rt, "room for 16 bytes");
+    for (step, answer) in [
+        (
+            Step::CreateOfTwo(range(0, 8), range(4, 8)),
+            (Status::RangeOverlap, 0),
+        ),
+        (Step::CreateOfTwo(range(0, 8), range(8, 8)), (Status::Ok, 1)),
+        (Step::Create(range(8, 9)), (Status::OutOfRange, 0)),
+        (Step::Delete(2), (Status::NoSuchSet, 0)),
+        (Step::Delete(1), (Status::Ok, 0)),
+        (Step::Create(range(15, 1)), (Status::Ok, 1)),
+        (Step::Abort(1), (Status::Ok, 1)),
+        (Step::Create(range(15, 1)), (Status::Ok, 2)),
+    ] {
+        let found = told(rt.alloc(), &mut device, step);
+        assert_eq!(rt; found, Some(answer), "{step:?}");
+    }
+}
+
+#[test]
+fn slots_hold_programs(rt: HostRuntime) {
+    let mut device = device(rt.alloc(), 16).expect(&rt, "room for 16 bytes");
+    for (step, answer) in [
+        (Step::Unload(3), (Status::SlotEmpty, 0)),
+        (Step::Load(3, 16, 8, EXIT), (Status::Ok, 0)),
+        (Step::Load(3, 16, 8, EXIT), (Status::PieceOverlap, 0)),
+        (Step::Load(3, 24, 0, SET), (Status::SizeDiffers, 0)),
+        (Step::Activate(3), (Status::SlotPartial, 0)),
+        (Step::Load(3, 16, 0, SET), (Status::Ok, 0)),
+        (Step::Load(3, 16, 0, SET), (Status::SlotComplete, 0)),
+        (Step::Deactivate(3), (Status::SlotInactive, 0)),
+        (Step::Activate(3), (Status::Ok, 0)),
+        (Step::Unload(3), (Status::SlotActive, 0)),
+        (Step::Activate(64), (Status::NoSuchSlot, 0)),
+        (
+            Step::Load(0, 8, 0, [0xff, 0, 0, 0, 0, 0, 0, 0]),
+            (Status::Ok, 0),
+        ),
+        (Step::Activate(0), (Status::BadProgram, 0)),
+        (
+            Step::Load(1, 16, 0, [0xb7, 0, 0, 0, 1, 0, 0, 0]),
+            (Status::Ok, 0),
+        ),
+        (
+            Step::Load(1, 16, 8, [0x18, 0, 0, 0, 0, 0, 0, 0]),
+            (Status::Ok, 0),
+        ),
+        (Step::Activate(1), (Status::BadProgram, 1)),
+        (Step::Deactivate(3), (Status::Ok, 0)),
+        (Step::Unload(3), (Status::Ok, 0)),
+    ] {
+        let found = told(rt.alloc(), &mut device, step);
+        assert_eq!(rt; found, Some(answer), "{step:?}");
     }
 }
