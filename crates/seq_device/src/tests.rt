@@ -1,7 +1,11 @@
 // What no clause says: that calls succeed where there is memory, and worked examples.
+ghost use Rattle.std.specs.Prelude.{◌≢◌, IfSome};
+ghost use Rattle.cp_base.specs.Words.{word_of};
+
 use crate::SeqDevice;
 use cp_base::{
-    Access, Bytes, Command, Config, CopySource, MemRange, RangeList, SourceList, SpaceId, Status,
+    Access, Bytes, Command, CommandWord, Config, CopySource, MemRange, RangeList, SourceList,
+    SpaceId, Status,
 };
 use std::alloc::Global;
 
@@ -179,32 +183,35 @@ fn range(at: u64, len: u64) -> MemRange {
     }
 }
 
+// The command of a step. `None` where there is no memory.
+fn command_of(alloc: Global, step: Step) -> Option<Command>
+    ensures { IfSome result (λ command. word_of command ≢ CommandWord.Execute) }
+{
+    match step {
+        Step::Create(range) => Some(Command::SetCreate {
+            ranges: RangeList::new(alloc, &[range])?,
+        }),
+        Step::CreateOfTwo(first, second) => Some(Command::SetCreate {
+            ranges: RangeList::new(alloc, &[first, second])?,
+        }),
+        Step::Delete(set) => Some(Command::SetDelete { set }),
+        Step::Load(slot, size, at, piece) => Some(Command::Load {
+            slot,
+            size,
+            at,
+            bytes: Bytes::from_slice(alloc, &piece).ok()?,
+        }),
+        Step::Unload(slot) => Some(Command::Unload { slot }),
+        Step::Activate(slot) => Some(Command::Activate { slot }),
+        Step::Deactivate(slot) => Some(Command::Deactivate { slot }),
+        Step::Abort(cid) => Some(Command::Abort { cid }),
+    }
+}
+
 // The status and the result of a command on a device.
 fn told(alloc: Global, device: &mut SeqDevice, step: Step) -> Option<(Status, u64)> {
-    let reply = match step {
-        Step::Create(range) => {
-            let ranges = RangeList::new(alloc, &[range])?;
-            device.step(&Command::SetCreate { ranges })
-        }
-        Step::CreateOfTwo(first, second) => {
-            let ranges = RangeList::new(alloc, &[first, second])?;
-            device.step(&Command::SetCreate { ranges })
-        }
-        Step::Delete(set) => device.step(&Command::SetDelete { set }),
-        Step::Load(slot, size, at, piece) => {
-            let bytes = Bytes::from_slice(alloc, &piece).ok()?;
-            device.step(&Command::Load {
-                slot,
-                size,
-                at,
-                bytes,
-            })
-        }
-        Step::Unload(slot) => device.step(&Command::Unload { slot }),
-        Step::Activate(slot) => device.step(&Command::Activate { slot }),
-        Step::Deactivate(slot) => device.step(&Command::Deactivate { slot }),
-        Step::Abort(cid) => device.step(&Command::Abort { cid }),
-    };
+    let command = command_of(alloc, step)?;
+    let reply = device.step(&command);
     Some((reply.status, reply.result))
 }
 
