@@ -1,0 +1,9 @@
+//! What a command touches: the bytes that it reads and those that it may write, and what an execution holds.
+#![tactic(auto)]
+
+mod regions;
+#[cfg(test)]
+mod tests;
+mod touched;
+
+pub use touched::footprint;
