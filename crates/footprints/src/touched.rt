@@ -12,7 +12,8 @@ ghost use Rattle.trail_model.specs.Footprints.{footprint_of, writable_ranges};
 use crate::regions::{bytes_of, writable};
 use copy_ranges::{CopyPlan, check_copy};
 use cp_base::{
-    ByteRange, Command, Config, Footprint, MAX_SPAN, MAX_TRANSFER, MemRange, RangeList, Spans,
+    ByteRange, Command, Config, Footprint, MAX_ITEMS, MAX_SPAN, MAX_TRANSFER, MemRange, RangeList,
+    Spans,
 };
 use nvm_blocks::{blocks_to_range, write_to_range};
 use slm_bytes::bytes_to_range;
@@ -58,7 +59,7 @@ fn writing(alloc: Global, range: ByteRange) -> Footprint
 
 // The footprint of a copy: it reads the sources and writes the destination.
 fn copying(alloc: Global, plan: CopyPlan) -> Footprint
-    requires { length plan.sources.items ≤ 16 }
+    requires { length plan.sources.items ≤ MAX_ITEMS }
     ensures { result
         ≡ record { reads = runs_of plan.sources.items; writes = plan.to ∷ []; slot = None; set = None } }
 {
@@ -79,7 +80,7 @@ pub(crate) fn executing(
     set: u32,
     ranges: &[MemRange],
 ) -> Footprint
-    requires few { length ranges.now ≤ 16 }
+    requires few { length ranges.now ≤ MAX_ITEMS }
     requires not_empty { any_without_bytes (map range_region ranges.now) ≡ false }
     requires inside { list_any (is_outside config.now) (map range_region ranges.now) ≡ false }
     ensures { result ≡ record {
@@ -115,7 +116,7 @@ fn nothing(alloc: Global) -> Footprint
 // The ranges of a set, none where there is no set.
 fn ranges_of(set: Option<&RangeList>) -> &[MemRange]
     ensures ranges { result.now ≡ unwrap_or (option_copied set.entry) [] }
-    ensures few { length result.now ≤ 16 }
+    ensures few { length result.now ≤ MAX_ITEMS }
 {
     match set {
         Some(ranges) => ranges.as_slice(),
