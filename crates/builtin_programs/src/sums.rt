@@ -3,10 +3,11 @@ ghost use Rattle.std.specs.Prelude.{◌≡◌, ◌+◌, ◌*◌, ◌≤◌, leng
 ghost use Rattle.std.specs.Simd.Lanes.{chunk, sum_l};
 
 use crate::LANES;
+use cp_base::MAX_NAMESPACE;
 use std::simd::prelude::*;
 
-/// How many bytes are summed at most: so every sum has 32 bits.
-pub const MAX_SUMMED: u64 = 16_777_216;
+/// How many bytes are summed at most, those of the largest namespace: so every sum has 32 bits.
+pub const MAX_SUMMED: u64 = MAX_NAMESPACE;
 
 /// The sum of the bytes.
 pub fn sum_bytes(bytes: &[u8]) -> u64

@@ -7,6 +7,7 @@ use Rattle.device_model.specs.State.{opening}
 use Rattle.script_cmds.specs.declared.item.Phase.{Phase}
 use Rattle.script_cmds.specs.declared.item.Show.{Show}
 use Rattle.history_model.specs.Sent.{sends_of}
+use Rattle.replay_print.specs.declared.laws.TheConstants.{LONGEST_LINE}
 use Rattle.nvmecp.specs.Lines.{place_lines, shown_lines}
 use Rattle.nvmecp.specs.Place.{CarriesOut, place_of}
 use Rattle.nvmecp.specs.Shown.{AreShort, HasRoom, places_of}
@@ -14,7 +15,7 @@ use Rattle.nvmecp.specs.declared.in_order.Finished.{Finished}
 
 -- each command has its reply, no line is longer than the line buffer, and the lines have numbers
 pub record IsPrintable (f : Finished) : Type 0 where
-  pub room : HasRoom 16482 f.line
+  pub room : HasRoom LONGEST_LINE f.line
   pub short : AreShort f.replies.items
   pub few : length f.placed.items < 2 ^ 32
   pub answered : length f.placed.items ≡ length f.replies.items

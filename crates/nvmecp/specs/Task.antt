@@ -1,5 +1,6 @@
 -- What a word of the program does with its input. This project's own.
 use Rattle.std.specs.Prelude.{◌≡◌, ℕ, ◌<◌, ◌≤◌, ◌⊎◌, List, length}
+use Rattle.script_line.specs.declared.limits.TheConstants.{VERSION_1}
 use Rattle.nvmecp.specs.Refusal.{too_long_line}
 
 -- The most bytes of an input, which inputs are accepted and which are rejected, and by input and text what
@@ -13,7 +14,7 @@ pub record Task : Type 1 where
 
 -- the most bytes of a script, of assembly text and of code in hex
 abbrev pub max_input : ℕ
-max_input = 16777216
+max_input = VERSION_1.bytes
 
 -- the text that is due where an input is refused: too many bytes came, or it is rejected
 pub data IsRefusal (task : Task) (input : List ℕ) (text : List ℕ) : Type 0 where

@@ -1,7 +1,8 @@
 -- The words of the command line. This project's own.
-use Rattle.std.specs.Prelude.{ℕ, ◌&&◌, List, [], ◌∷◌, Option, Some, None, if◌then◌else◌, codes, option_map}
-use Rattle.std.specs.Str.{bytes_eq}
-use Rattle.cp_text.specs.Number.{number_of}
+use Rattle.std.specs.Prelude.{ℕ, ◌==◌, List, Option, Some, None, if◌then◌else◌, option_and_then}
+use Rattle.cp_line.specs.Orders.{order_of}
+use Rattle.cp_line.specs.declared.order.Order.{Order}
+use Rattle.cp_line.specs.declared.order.Order.TheVariants as order
 use Rattle.nvmecp.specs.Asm.{asm_task}
 use Rattle.nvmecp.specs.Dis.{dis_task}
 use Rattle.nvmecp.specs.Step.{step_task}
@@ -9,15 +10,19 @@ use Rattle.nvmecp.specs.Task.{Task}
 use Rattle.nvmecp.specs.declared.words.Asked.{Asked}
 use Rattle.nvmecp.specs.declared.words.Asked.TheVariants as asked
 
--- what the words ask for: `step 1 <choices>`, `asm` or `dis`; None where they are others
+-- what an order asks of this version of the program: `step` with one worker, `asm` or `dis`; None for the others
+abbrev pub asked_by : Order → Option Asked
+asked_by (order.Step workers choices) = if workers == 1 then Some (asked.Step choices) else None
+asked_by (order.Serve workers) = None
+asked_by (order.Make seed commands) = None
+asked_by order.Asm = Some asked.Asm
+asked_by order.Dis = Some asked.Dis
+asked_by order.Upgrade = None
+asked_by order.Check = None
+
+-- what the words ask for; None where they are no order, or one that this version does not carry out
 abbrev pub asked_of : List (List ℕ) → Option Asked
-asked_of (word ∷ []) =
-    if bytes_eq word (codes "asm") then Some asked.Asm
-    else if bytes_eq word (codes "dis") then Some asked.Dis
-    else None
-asked_of (word ∷ workers ∷ choices ∷ []) =
-    if bytes_eq word (codes "step") && bytes_eq workers (codes "1") then option_map (λ n. asked.Step n) (number_of choices) else None
-asked_of _ = None
+asked_of words = option_and_then asked_by (order_of words)
 
 -- what is done with the input
 abbrev pub task_of : Asked → Task

@@ -2,17 +2,15 @@
 ghost use Rattle.std.specs.Prelude.{◌≡◌, ◌≤◌, length, map};
 ghost use Rattle.std.specs.String.{string_bytes};
 ghost use Rattle.nvmecp.specs.Ends.{EndsBy};
-ghost use Rattle.nvmecp.specs.Words.{asked_of, task_of};
+ghost use Rattle.nvmecp.specs.Words.{asked_by, asked_of, task_of};
 
 use crate::ending::Ending;
 use crate::{asm, dis, step};
 use cp_base::Bytes;
 use cp_io::Sink;
-use cp_text::number;
+use cp_line::Order;
+use script_line::VERSION_1;
 use std::alloc::Global;
-
-/// The most bytes of an input.
-const MAX_INPUT: u64 = 16_777_216;
 
 /// What the words of the command line ask for.
 #[derive(Clone, Copy, Debug)]
@@ -31,7 +29,7 @@ impl Asked {
         ensures { result ≡ (task_of self).limit }
     {
         match self {
-            Asked::Step { .. } | Asked::Asm | Asked::Dis => MAX_INPUT,
+            Asked::Step { .. } | Asked::Asm | Asked::Dis => VERSION_1.bytes,
         }
     }
 
@@ -50,17 +48,29 @@ impl Asked {
     }
 }
 
+// What an order asks of this version of the program. `None` for orders that are not built yet: workers beside the
+// first, threads, loads, the second version of scripts and the checker.
+fn asked_by(order: Order) -> Option<Asked>
+    ensures { result ≡ asked_by order }
+{
+    match order {
+        Order::Step {
+            workers: 1,
+            choices,
+        } => Some(Asked::Step { choices }),
+        Order::Asm => Some(Asked::Asm),
+        Order::Dis => Some(Asked::Dis),
+        Order::Step { .. }
+        | Order::Serve { .. }
+        | Order::Make { .. }
+        | Order::Upgrade
+        | Order::Check => None,
+    }
+}
+
 /// What the words ask for. `None` where they ask for nothing that the program does.
 pub fn read_words(words: &[String]) -> Option<Asked>
     ensures { result ≡ asked_of (map string_bytes words.now) }
 {
-    match words {
-        [word] if word.as_str() == "asm" => Some(Asked::Asm),
-        [word] if word.as_str() == "dis" => Some(Asked::Dis),
-        [word, workers, choices] if word.as_str() == "step" && workers.as_str() == "1" => {
-            let choices = number(choices.as_bytes())?;
-            Some(Asked::Step { choices })
-        }
-        _ => None,
-    }
+    asked_by(cp_line::read_words(words)?)
 }

@@ -1,6 +1,7 @@
 use Rattle.std.proofs.Common.{◌≤◌, take}
 use Rattle.std.specs.List.{concat}
 use Rattle.std.specs.Io.KnownBytes.{Appends}
+use Rattle.replay_print.specs.declared.laws.TheConstants.{LONGEST_LINE}
 use Rattle.nvmecp.specs.Lines.{shown_lines}
 use Rattle.nvmecp.specs.Shown.{HasRoom}
 use Rattle.nvmecp.proofs.printing.print_shows.Given as goal
@@ -9,6 +10,6 @@ use Rattle.nvmecp.proofs.printing.print_shows.Given as goal
 abbrev pub invariant-loop-show : goal.invariant-loop-show
 invariant-loop-show g l = record {
   written : Appends (g.K.Sink.held l.initial.sink) (g.K.Sink.held l.sink) (concat (take l.show-index (shown_lines l.device.state.contents l.shows)));
-  room : HasRoom 16482 l.line;
+  room : HasRoom LONGEST_LINE l.line;
   later : g.K.Sink.faults l.initial.sink ≤ g.K.Sink.faults l.sink;
 }
