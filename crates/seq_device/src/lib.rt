@@ -4,6 +4,7 @@
 mod blocks;
 mod copies;
 mod device;
+mod execution;
 mod memory;
 mod replies;
 mod sets;
