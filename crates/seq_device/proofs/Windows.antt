@@ -33,6 +33,11 @@ pub bytes_seen : (contents : Contents) (r : MemRange) → IsInside contents (ran
     → bytes_in contents (range_region r) ≡ bytes_from (memory_of contents) r.ns r.at r.len
 bytes_seen contents r inside = bytes_in-gathered contents (range_region r) inside ∙ seen contents r.ns r.at r.len
 
+-- and of a part of a range
+pub first_seen : (contents : Contents) (ns at len : ℕ) → at + len ≤ length (bytes_of contents (Mem ns))
+    → bytes_in contents (record { space = Mem ns; start = at; len = len }) ≡ bytes_from (memory_of contents) ns at len
+first_seen contents ns at len inside = bytes_in-gathered contents (record { space = Mem ns; start = at; len = len }) inside ∙ seen contents ns at len
+
 all_but_first : {A : Type 0} (P : A → Type 0) (x : A) (xs : List A) → All P (x ∷ xs) → All P xs
 all_but_first P x xs all = λ k d below. all (suc k) d (omega arith)
 

@@ -2,6 +2,7 @@
 #![tactic(auto)]
 
 mod blocks;
+mod builtins;
 mod copies;
 mod device;
 mod execution;

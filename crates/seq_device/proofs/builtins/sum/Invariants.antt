@@ -1,0 +1,10 @@
+use Rattle.std.proofs.Common.{◌≡◌, ◌*◌, ◌≤◌, sum, sum_by, take}
+use Rattle.cp_base.specs.declared.limits.TheConstants.{MAX_NAMESPACE}
+use Rattle.bpf_model.specs.Memory.{windows_of}
+use Rattle.device_model.specs.Execution.{memory_of}
+use Rattle.seq_device.proofs.builtins.sum.Given as goal
+
+-- the sum so far
+abbrev pub invariant-loop-range : goal.invariant-loop-range
+invariant-loop-range l =
+    (l.total ≡ sum_by sum (windows_of (memory_of l.flat) (take l.range-index l.ranges))) × (l.total ≤ 255 * MAX_NAMESPACE * l.range-index)
