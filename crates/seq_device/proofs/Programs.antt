@@ -20,9 +20,6 @@ use Rattle.trail_model.proofs.Putting.{memory-put}
 
 -- ---- the first difference of two lists
 
-
-
-
 -- the pairs of a place
 pairs_many : (a b : List ℕ) (i : ℕ) → i < length a → i < length b → i < length (zip a b)
 pairs_many [] b i less less' = absurd (omega arith)

@@ -1,22 +1,24 @@
 -- No check and no effect tells that a command was withdrawn.
-use Rattle.std.proofs.Common.{ℕ, Bool, true, false, is_none, if◌then◌else◌, List, [], ◌∷◌, ◌++◌, Option, Some, None, IfSome, option_map, subst}
+use Rattle.std.proofs.Common.{◌≡◌, ℕ, Bool, true, false, is_none, if◌then◌else◌, List, [], ◌∷◌, ◌++◌, map, length, Option, Some, None, IfSome, option_map, subst}
 use Rattle.std.specs.Prelude.{◌≢◌}
 use Rattle.std.specs.List.{AllByRecursion}
 use Rattle.std.specs.Option.{option_or}
 use Rattle.cp_base.specs.Answer.{Answer, only_status}
-use Rattle.cp_base.specs.Checks.{Check, first_failing}
-use Rattle.cp_base.specs.Configuration.{Configuration}
+use Rattle.cp_base.specs.Checks.{Check, block_checks, byte_checks, copy_checks, first_failing, set_checks, write_checks}
+use Rattle.cp_base.specs.Configuration.{Configuration, size_of}
+use Rattle.cp_base.specs.Region.{Region}
 use Rattle.cp_base.specs.declared.commands.Command.{Command}
 use Rattle.cp_base.specs.declared.commands.Command.TheVariants as command
+use Rattle.cp_base.specs.declared.region.SpaceId.{SpaceId}
 use Rattle.cp_base.specs.declared.replies.Status.{Status}
 use Rattle.cp_base.specs.declared.replies.Status.TheVariants as status
 use Rattle.bpf_isa.specs.declared.end.End.{End}
 use Rattle.bpf_isa.specs.declared.end.End.TheVariants as end
-use Rattle.device_model.specs.Builtin.{builtin_at}
-use Rattle.device_model.specs.Checks.{checks_of, deactivate_checks, refusal_of, refusal_of_program, runnable_checks}
+use Rattle.device_model.specs.Builtin.{Builtin, builtin_at}
+use Rattle.device_model.specs.Checks.{activate_checks, checks_of, deactivate_checks, execute_checks, load_checks, program_refusal, refusal_of, refusal_of_program, runnable_checks, unload_checks}
 use Rattle.device_model.specs.Effect.{effect_of}
 use Rattle.device_model.specs.Execution.{Outcome, told_of}
-use Rattle.device_model.specs.State.{State, slot_at}
+use Rattle.device_model.specs.State.{Slot, State, slot_at}
 use Rattle.device_model.specs.Step.{outcome_of, refused_or_done}
 use Rattle.seq_device.specs.Standing.{Standing, IsDone}
 

@@ -10,7 +10,7 @@ ghost use Rattle.device_model.specs.Execution.{OfDevice, memory_of, outcome_on, 
 ghost use Rattle.seq_device.specs.Programs.{builtin_of};
 ghost use Rattle.seq_device.specs.Ranges.{AreAtHand, IsAtHand};
 
-use crate::execution::{is_read_write, region};
+use crate::loaded::{is_read_write, region};
 use bpf_exec::End;
 use cp_base::{ByteRange, Bytes, MemRange, NoMemory, SLOTS, SpaceId};
 use slm_bytes::Flat;
@@ -191,7 +191,13 @@ fn sum(flat: &Flat, ranges: &[MemRange]) -> u64
 }
 
 // Marks in the second range which bytes of the first lie in a class, as far as both go, and tells how many do.
-fn classes(alloc: Global, flat: &mut Flat, ranges: &[MemRange], p1: u64, p2: u64) -> Result<End, NoMemory>
+fn classes(
+    alloc: Global,
+    flat: &mut Flat,
+    ranges: &[MemRange],
+    p1: u64,
+    p2: u64,
+) -> Result<End, NoMemory>
     requires { All (IsAtHand flat.old) ranges.now }
     ensures ending { (budget : ℕ) → builtin.common_len (windows_of (memory_of flat.old) ranges.now) ≤ budget →
         IfOk result (λ ending. ending ≡ (builtin_outcome builtin.Classes ranges.now (memory_of flat.old) p1 p2 budget).ending) }
@@ -227,7 +233,14 @@ fn first_bytes(range: &MemRange, len: u64) -> ByteRange
 
 // The marks of so many bytes of a range, from its first on.
 #[tactic(auto, using(crate::proofs::Windows::first_seen))]
-fn class_marks(alloc: Global, flat: &Flat, from: &MemRange, len: u64, p1: u64, p2: u64) -> Result<Bytes, NoMemory>
+fn class_marks(
+    alloc: Global,
+    flat: &Flat,
+    from: &MemRange,
+    len: u64,
+    p1: u64,
+    p2: u64,
+) -> Result<Bytes, NoMemory>
     requires at_hand { IsAtHand flat.now from.now }
     requires some { 0 < len }
     requires fits { len ≤ from.now.len }

@@ -3,15 +3,12 @@ ghost use Rattle.std.specs.Prelude.{◌≡◌, ◌≢◌, ◌⊎◌, ◌+◌, �
 ghost use Rattle.cp_base.specs.Configuration.{size_of};
 ghost use Rattle.cp_base.specs.Answer.{answer_of, only_status};
 ghost use Rattle.cp_base.specs.Contents.{bytes_in, bytes_of};
-ghost use Rattle.cp_base.specs.Words.{word_of};
 ghost use Rattle.device_model.specs.State.{opening};
 ghost use Rattle.device_model.specs.Step.{DeviceStep};
 ghost use Rattle.seq_device.specs.Standing.{IsCarriedOut, IsDone, was_read, with_put, works_in_place};
 
 use crate::replies::{only, read, told};
-use cp_base::{
-    ByteRange, Bytes, Command, CommandWord, Config, MAX_TRANSFER, NoMemory, Reply, SpaceId, Status,
-};
+use cp_base::{ByteRange, Bytes, Command, Config, MAX_TRANSFER, NoMemory, Reply, SpaceId, Status};
 use program_slots::Slots;
 use range_sets::Sets;
 use slm_bytes::Flat;
@@ -61,7 +58,6 @@ impl SeqDevice {
     /// Carries out a command. Where it needs memory that is not there, the reply is `NoMemory` and
     /// nothing is changed.
     pub fn step(&mut self, command: &Command) -> Reply
-        requires moves_no_program { word_of command.now ≢ CommandWord.Execute }
         ensures step { DeviceStep self.old.config self.old.state command.now (answer_of result) self.new.state }
         ensures carried { IsCarriedOut self.old command.now (answer_of result) self.new }
         ensures in_place { IsTrue (works_in_place command.now) → IsDone self.old command.now (answer_of result) self.new }
@@ -88,7 +84,13 @@ impl SeqDevice {
             Command::Unload { slot } => self.unload(*slot),
             Command::Activate { slot } => self.activate(*slot),
             Command::Deactivate { slot } => self.deactivate(*slot),
-            Command::Execute { .. } => unreachable!(),
+            Command::Execute {
+                slot,
+                set,
+                p1,
+                p2,
+                budget,
+            } => self.execute(*slot, *set, *p1, *p2, *budget),
             Command::Abort { .. } => told(self.alloc, Status::Ok, 1),
         }
     }

@@ -1,120 +1,103 @@
-// Executions of the programs that hosts load (Computational Programs Command Set 1.0, in outline).
-ghost use Rattle.std.specs.Prelude.{◌≡◌, ℕ, ◌+◌, ◌<◌, ◌≤◌, List, pos, replicate, length, map, IfOk, OnOk, OnErr};
-ghost use Rattle.cp_base.specs.Contents.{IsInside};
-ghost use Rattle.cp_base.specs.Sharing.{range_region};
-ghost use Rattle.cp_base.specs.declared.limits.TheConstants.{MAX_ITEMS, MAX_NAMESPACE};
-ghost use Rattle.bpf_model.specs.Address.{stack_len};
-ghost use Rattle.bpf_model.specs.Memory.{allows_writing, bytes_from, lengths_of, read_write_of, windows_of};
-ghost use Rattle.bpf_model.specs.Walk.{instruction_at};
-ghost use Rattle.bpf_decode.specs.Slots.{insn_at};
-ghost use Rattle.confined_view.specs.Touched.{window_bytes};
-ghost use Rattle.device_model.specs.Execution.{Loaded, memory_of, outcome_on, with_memory};
-ghost use Rattle.seq_device.specs.Ranges.{AreAtHand, IsAtHand, with_window, with_windows};
+// Executions (Computational Programs Command Set 1.0, in outline).
+ghost use Rattle.std.specs.Prelude.{◌≡◌, ◌≤◌, None, Some, IfOk, OnOk, OnErr, MatchResult, length};
+ghost use Rattle.cp_base.specs.Answer.{answer_of};
+ghost use Rattle.cp_base.specs.Checks.{first_failing};
+ghost use Rattle.cp_base.specs.Configuration.{IsWithinLimits};
+ghost use Rattle.cp_base.specs.Sets.{ranges_under};
+ghost use Rattle.device_model.specs.Checks.{execute_checks, runnable_checks};
+ghost use Rattle.device_model.specs.Execution.{executed, told_of};
+ghost use Rattle.seq_device.specs.Standing.{IsCarriedOut};
 
-use bpf_decode::Decoded;
-use bpf_exec::{End, run};
-use confined_view::{View, Window};
-use cp_base::{Access, ByteRange, Bytes, MemRange, NoMemory, SpaceId};
-use slm_bytes::Flat;
+use crate::SeqDevice;
+use crate::builtins::{device_program, run_builtin};
+use crate::loaded::run_loaded;
+use crate::replies::{only, told};
+use bpf_exec::End;
+use cp_base::{Command, NoMemory, Reply, Status};
 use std::alloc::Global;
 
-// How many bytes the stack of a program has.
-const STACK_LEN: u64 = 4096;
-
-// Where the bytes of a range lie.
-pub(crate) fn region(range: &MemRange) -> ByteRange
-    requires some { 0 < range.now.len }
-    requires short { range.now.at + range.now.len ≤ MAX_NAMESPACE }
-    ensures { result ≡ range_region range.now }
+// What a host is told of the end of an execution with this budget.
+fn ended(alloc: Global, budget: u64, end: End) -> Reply
+    ensures { answer_of result ≡ told_of budget end }
 {
-    ByteRange::new(SpaceId::Mem(range.ns), range.at, range.len).unwrap()
-}
-
-// Whether a program may store into a range.
-pub(crate) fn is_read_write(range: &MemRange) -> bool
-    ensures { result ≡ allows_writing range.now.access }
-{
-    range.access == Access::ReadWrite
-}
-
-#[tactic(auto, using(crate::proofs::Windows::bytes_seen))]
-// A copy of the bytes of a range, and whether a program may store into them.
-fn window_of(flat: &Flat, range: &MemRange) -> Result<Window, NoMemory>
-    requires { IsAtHand flat.now range.now }
-    ensures bytes { IfOk result (λ window. window.bytes.items ≡ bytes_from (memory_of flat.now) range.now.ns range.now.at range.now.len) }
-    ensures writable { IfOk result (λ window. window.writable ≡ allows_writing range.now.access) }
-{
-    Ok(Window {
-        bytes: flat.piece(&region(range))?,
-        writable: is_read_write(range),
-    })
-}
-
-// What a program sees of ranges, with a stack of zeros.
-fn view_of(alloc: Global, flat: &Flat, ranges: &[MemRange]) -> Result<View, NoMemory>
-    requires few { length ranges.now ≤ MAX_ITEMS }
-    requires at_hand { AreAtHand flat.now ranges.now }
-    ensures windows { IfOk result (λ view. windows_of (memory_of flat.now) ranges.now ≡ view.windows) }
-    ensures writable { IfOk result (λ view. read_write_of ranges.now ≡ view.writable) }
-    ensures stack { IfOk result (λ view. view.stack ≡ replicate stack_len 0) }
-{
-    let stack = Bytes::filled(alloc, STACK_LEN, 0)?;
-    let mut windows = Vec::new(alloc);
-    for range in ranges {
-        windows.push(window_of(flat, range)?)?;
-    }
-    Ok(View::new(windows, stack))
-}
-
-// Puts the bytes of a window back, where a program may store into its range.
-fn put_window(flat: &mut Flat, range: &MemRange, window: &Window)
-    requires at_hand { IsAtHand flat.old range.now }
-    requires length { length window.now.bytes.items ≡ range.now.len }
-    ensures { flat.new ≡ with_window flat.old range.now window.now.bytes.items }
-{
-    if is_read_write(range) {
-        flat.patch(&region(range), &window.bytes);
+    match end {
+        End::Exit(value) => told(alloc, Status::Ok, value),
+        End::BadAccess(place) => told(alloc, Status::BadAccess, u64::from(place)),
+        End::BadJump(place) => told(alloc, Status::BadJump, u64::from(place)),
+        End::CallDepth(place) => told(alloc, Status::CallDepth, u64::from(place)),
+        End::BudgetSpent => told(alloc, Status::BudgetSpent, budget),
     }
 }
 
-// Puts the bytes of windows back, where a program may store into their ranges.
-fn put_windows(flat: &mut Flat, ranges: &[MemRange], windows: &[Window])
-    requires at_hand { AreAtHand flat.old ranges.now }
-    requires lengths { map length (window_bytes windows.now) ≡ lengths_of ranges.now }
-    ensures { flat.new ≡ with_windows flat.old ranges.now (window_bytes windows.now) }
-{
-    for (index, range) in ranges.iter().enumerate() {
-        put_window(flat, range, &windows[index]);
+impl SeqDevice {
+    // Executes the program of a slot on the ranges of a set.
+    pub(crate) fn execute(&mut self, slot: u32, set: u32, p1: u64, p2: u64, budget: u64) -> Reply
+        ensures carried { IsCarriedOut self.old (Command.Execute slot set p1 p2 budget) (answer_of result) self.new }
+        ensures empty { length result.bytes.items ≡ 0 }
+    {
+        if let Err(status) = self.check_execute(slot, set, budget) {
+            return only(self.alloc, status);
+        }
+        match self.run(slot, set, p1, p2, budget) {
+            Ok(end) => ended(self.alloc, budget, end),
+            Err(NoMemory) => only(self.alloc, Status::NoMemory),
+        }
     }
-}
 
-/// Executes the program of a host on ranges, and tells how it ends. What it has stored into them stays, however
-/// it ends.
-///
-/// # Errors
-///
-/// `NoMemory` where there is none for the windows and the stack. Then nothing changes.
-pub(crate) fn run_loaded(
-    alloc: Global,
-    flat: &mut Flat,
-    ranges: &[MemRange],
-    program: &Decoded,
-    p1: u64,
-    p2: u64,
-    budget: u64,
-) -> Result<End, NoMemory>
-    requires budget { 1 ≤ budget }
-    requires few { length ranges.now ≤ MAX_ITEMS }
-    requires at_hand { AreAtHand flat.old ranges.now }
-    ensures ending { (code : List ℕ) → ((place : ℕ) → insn_at program.now (pos place) ≡ instruction_at code place) →
-        IfOk result (λ ending. ending ≡ (outcome_on (Loaded code) ranges.now (memory_of flat.old) p1 p2 budget).ending) }
-    ensures left { (code : List ℕ) → ((place : ℕ) → insn_at program.now (pos place) ≡ instruction_at code place) →
-        OnOk result (flat.new ≡ with_memory flat.old (outcome_on (Loaded code) ranges.now (memory_of flat.old) p1 p2 budget).memory) }
-    ensures unchanged { OnErr result (flat.new ≡ flat.old) }
-{
-    let mut view = view_of(alloc, flat, ranges)?;
-    let end = run(program, &mut view, p1, p2, budget);
-    let (windows, _) = view.into_parts();
-    put_windows(flat, ranges, &windows);
-    Ok(end)
+    // The checks of an execution.
+    fn check_execute(&self, slot: u32, set: u32, budget: u64) -> Result<(), Status>
+        ensures checked { MatchResult result
+            (λ _. first_failing (execute_checks self.now.config self.now.state slot set budget) ≡ None)
+            (λ status. first_failing (execute_checks self.now.config self.now.state slot set budget) ≡ Some status) }
+        ensures limits { OnOk result (IsWithinLimits self.now.config) }
+    {
+        self.check_runnable(slot)?;
+        if self.sets.get(set).is_none() {
+            return Err(Status::NoSuchSet);
+        }
+        if budget == 0 || budget > self.config.budget() {
+            return Err(Status::BudgetRange);
+        }
+        Ok(())
+    }
+
+    // The checks that the program of a slot can be executed: those of the device itself always can.
+    fn check_runnable(&self, slot: u32) -> Result<(), Status>
+        ensures checked { MatchResult result
+            (λ _. first_failing (runnable_checks self.now.state slot) ≡ None)
+            (λ status. first_failing (runnable_checks self.now.state slot) ≡ Some status) }
+    {
+        if device_program(slot).is_some() {
+            return Ok(());
+        }
+        match self.slots.code(slot) {
+            Ok(_) => Ok(()),
+            Err(status) => Err(status),
+        }
+    }
+
+    // Runs the program of a slot on the ranges of a set, where no check of the execution fails. Where there is
+    // no memory for that, nothing changes.
+    fn run(&mut self, slot: u32, set: u32, p1: u64, p2: u64, budget: u64) -> Result<End, NoMemory>
+        requires passes { first_failing (execute_checks self.old.config self.old.state slot set budget) ≡ None }
+        requires limits { IsWithinLimits self.old.config }
+        ensures done { IfOk result (λ ending.
+            executed self.old.state slot (ranges_under self.old.state.sets set) p1 p2 budget
+            ≡ record { answer = told_of budget ending; next = self.new.state }) }
+        ensures config { self.new.config ≡ self.old.config }
+        ensures unchanged { OnErr result (self.new ≡ self.old) }
+    {
+        let alloc = self.alloc;
+        let Some(ranges) = self.sets.get(set) else {
+            unreachable!();
+        };
+        let ranges = ranges.as_slice();
+        if let Some(program) = device_program(slot) {
+            return run_builtin(alloc, &mut self.flat, ranges, program, p1, p2, budget);
+        }
+        let Ok(code) = self.slots.code(slot) else {
+            unreachable!();
+        };
+        run_loaded(alloc, &mut self.flat, ranges, code, p1, p2, budget)
+    }
 }

@@ -6,6 +6,7 @@ mod builtins;
 mod copies;
 mod device;
 mod execution;
+mod loaded;
 mod memory;
 mod replies;
 mod sets;

@@ -1,11 +1,7 @@
 // What no clause says: that calls succeed where there is memory, and worked examples.
-ghost use Rattle.std.specs.Prelude.{◌≢◌, IfSome};
-ghost use Rattle.cp_base.specs.Words.{word_of};
-
 use crate::SeqDevice;
 use cp_base::{
-    Access, Bytes, Command, CommandWord, Config, CopySource, MemRange, RangeList, SourceList,
-    SpaceId, Status,
+    Access, Bytes, Command, Config, CopySource, MemRange, RangeList, SourceList, SpaceId, Status,
 };
 use std::alloc::Global;
 
@@ -183,35 +179,32 @@ fn range(at: u64, len: u64) -> MemRange {
     }
 }
 
-// The command of a step. `None` where there is no memory.
-fn command_of(alloc: Global, step: Step) -> Option<Command>
-    ensures { IfSome result (λ command. word_of command ≢ CommandWord.Execute) }
-{
-    match step {
-        Step::Create(range) => Some(Command::SetCreate {
-            ranges: RangeList::new(alloc, &[range])?,
-        }),
-        Step::CreateOfTwo(first, second) => Some(Command::SetCreate {
-            ranges: RangeList::new(alloc, &[first, second])?,
-        }),
-        Step::Delete(set) => Some(Command::SetDelete { set }),
-        Step::Load(slot, size, at, piece) => Some(Command::Load {
-            slot,
-            size,
-            at,
-            bytes: Bytes::from_slice(alloc, &piece).ok()?,
-        }),
-        Step::Unload(slot) => Some(Command::Unload { slot }),
-        Step::Activate(slot) => Some(Command::Activate { slot }),
-        Step::Deactivate(slot) => Some(Command::Deactivate { slot }),
-        Step::Abort(cid) => Some(Command::Abort { cid }),
-    }
-}
-
 // The status and the result of a command on a device.
 fn told(alloc: Global, device: &mut SeqDevice, step: Step) -> Option<(Status, u64)> {
-    let command = command_of(alloc, step)?;
-    let reply = device.step(&command);
+    let reply = match step {
+        Step::Create(range) => {
+            let ranges = RangeList::new(alloc, &[range])?;
+            device.step(&Command::SetCreate { ranges })
+        }
+        Step::CreateOfTwo(first, second) => {
+            let ranges = RangeList::new(alloc, &[first, second])?;
+            device.step(&Command::SetCreate { ranges })
+        }
+        Step::Delete(set) => device.step(&Command::SetDelete { set }),
+        Step::Load(slot, size, at, piece) => {
+            let bytes = Bytes::from_slice(alloc, &piece).ok()?;
+            device.step(&Command::Load {
+                slot,
+                size,
+                at,
+                bytes,
+            })
+        }
+        Step::Unload(slot) => device.step(&Command::Unload { slot }),
+        Step::Activate(slot) => device.step(&Command::Activate { slot }),
+        Step::Deactivate(slot) => device.step(&Command::Deactivate { slot }),
+        Step::Abort(cid) => device.step(&Command::Abort { cid }),
+    };
     Some((reply.status, reply.result))
 }
 
@@ -270,5 +263,191 @@ fn slots_hold_programs(rt: HostRuntime) {
     ] {
         let found = told(rt.alloc(), &mut device, step);
         assert_eq!(rt; found, Some(answer), "{step:?}");
+    }
+}
+
+// What the execution of a program answers on a range of a memory of 16 bytes that begins with 1, 2, 3, 4, where p1
+// is 4, and the bytes at the places 0 and 8 afterwards.
+fn executed(
+    alloc: Global,
+    code: &[u8],
+    range: MemRange,
+    budget: u64,
+) -> Option<(Status, u64, Option<u8>, Option<u8>)> {
+    let mut device = device(alloc, 16)?;
+    let bytes = Bytes::from_slice(alloc, &[1, 2, 3, 4]).ok()?;
+    let _ = device.step(&Command::MemWrite {
+        ns: 1,
+        at: 0,
+        bytes,
+    });
+    let ranges = RangeList::new(alloc, &[range])?;
+    let _ = device.step(&Command::SetCreate { ranges });
+    let bytes = Bytes::from_slice(alloc, code).ok()?;
+    let _ = device.step(&Command::Load {
+        slot: 0,
+        size: bytes.len(),
+        at: 0,
+        bytes,
+    });
+    let _ = device.step(&Command::Activate { slot: 0 });
+    let reply = device.step(&Command::Execute {
+        slot: 0,
+        set: 1,
+        p1: 4,
+        p2: 0,
+        budget,
+    });
+    let memory = SpaceId::Mem(1);
+    Some((
+        reply.status,
+        reply.result,
+        device.byte(memory, 0),
+        device.byte(memory, 8),
+    ))
+}
+
+#[test]
+fn programs_are_executed(rt: HostRuntime) {
+    // adds up as many bytes of range 0 as p1 says
+    let sum =
+        b"\x18\x04\0\0\0\0\0\0\0\0\0\0\x01\0\0\0\xb7\0\0\0\0\0\0\0\x15\x01\x05\0\0\0\0\0\x71\x45\0\0\0\0\0\0\x0f\x50\0\0\0\0\0\0\x07\x04\0\0\x01\0\0\0\
+        \x17\x01\0\0\x01\0\0\0\x05\0\xfa\xff\0\0\0\0\x95\0\0\0\0\0\0\0";
+    // lddw r1 4294967296, stb r1 0 85, stb r1 8 85, exit
+    let stores =
+        b"\x18\x01\0\0\0\0\0\0\0\0\0\0\x01\0\0\0\x72\x01\0\0\x55\0\0\0\x72\x01\x08\0\x55\0\0\0\x95\0\0\0\0\0\0\0";
+    let locked = MemRange {
+        access: Access::ReadOnly,
+        ..range(0, 16)
+    };
+    for (code, range, budget, status, result, first, ninth) in [
+        (sum.as_slice(), range(0, 4), 28, Status::Ok, 10, 1, 0),
+        (sum.as_slice(), locked, 27, Status::BudgetSpent, 27, 1, 0),
+        (sum.as_slice(), range(1, 2), 100, Status::BadAccess, 4, 1, 0),
+        (stores.as_slice(), range(0, 16), 4, Status::Ok, 0, 85, 85),
+        (
+            stores.as_slice(),
+            range(0, 8),
+            4,
+            Status::BadAccess,
+            3,
+            85,
+            0,
+        ),
+        (
+            stores.as_slice(),
+            range(0, 16),
+            2,
+            Status::BudgetSpent,
+            2,
+            85,
+            0,
+        ),
+        (stores.as_slice(), locked, 4, Status::BadAccess, 2, 1, 0),
+        (
+            stores.as_slice(),
+            range(0, 16),
+            0,
+            Status::BudgetRange,
+            0,
+            1,
+            0,
+        ),
+        (
+            stores.as_slice(),
+            range(0, 16),
+            1001,
+            Status::BudgetRange,
+            0,
+            1,
+            0,
+        ),
+        (
+            stores.as_slice(),
+            range(0, 17),
+            4,
+            Status::NoSuchSet,
+            0,
+            1,
+            0,
+        ),
+        (&stores[..15], range(0, 16), 4, Status::SlotEmpty, 0, 1, 0),
+        (&stores[..8], range(0, 16), 4, Status::SlotInactive, 0, 1, 0),
+    ] {
+        let found = executed(rt.alloc(), code, range, budget);
+        assert_eq!(rt;
+            found,
+            Some((status, result, Some(first), Some(ninth))),
+            "{range:?}, budget {budget}"
+        );
+    }
+}
+
+// What a program of the device answers on a memory of 32 bytes that begins with 0 to 15, whose first 16 are range 0
+// and whose last 16 are range 1 with this access, where there is one, and the bytes at the places 18, 19, 21 and 22.
+fn executed_own(
+    alloc: Global,
+    second: Option<Access>,
+    slot: u32,
+    p1: u64,
+    p2: u64,
+    budget: u64,
+) -> Option<(Status, u64, [Option<u8>; 4])> {
+    let mut device = device(alloc, 32)?;
+    let bytes = [0, 1, 2, 3, 4, 5, 6, 7, 8, 9, 10, 11, 12, 13, 14, 15];
+    let bytes = Bytes::from_slice(alloc, &bytes).ok()?;
+    let _ = device.step(&Command::MemWrite {
+        ns: 1,
+        at: 0,
+        bytes,
+    });
+    let ranges = match second {
+        Some(access) => RangeList::new(
+            alloc,
+            &[
+                range(0, 16),
+                MemRange {
+                    access,
+                    ..range(16, 16)
+                },
+            ],
+        )?,
+        None => RangeList::new(alloc, &[range(0, 16)])?,
+    };
+    let _ = device.step(&Command::SetCreate { ranges });
+    let reply = device.step(&Command::Execute {
+        slot,
+        set: 1,
+        p1,
+        p2,
+        budget,
+    });
+    let bytes = [18, 19, 21, 22].map(|place| device.byte(SpaceId::Mem(1), place));
+    Some((reply.status, reply.result, bytes))
+}
+
+#[test]
+fn own_programs_are_executed(rt: HostRuntime) {
+    let both = Some(Access::ReadWrite);
+    let locked = Some(Access::ReadOnly);
+    for (second, slot, p1, p2, budget, status, result, mark) in [
+        (both, 64, 0, 0, 32, Status::Ok, 17, 0),
+        (both, 64, 0, 0, 31, Status::BudgetSpent, 31, 0),
+        (both, 65, 0, 0, 32, Status::Ok, 120, 0),
+        (both, 66, 0, 0, 16, Status::Ok, 1, 0),
+        (both, 68, 0, 0, 16, Status::NoSuchSlot, 0, 0),
+        (both, 67, 3, 5, 16, Status::Ok, 3, 1),
+        (both, 67, 259, 5, 15, Status::BudgetSpent, 15, 0),
+        (locked, 67, 3, 5, 16, Status::BadAccess, 0, 0),
+        (None, 66, 0, 0, 16, Status::Ok, u64::MAX, 0),
+        (None, 67, 0, 0, 16, Status::Ok, 0, 0),
+    ] {
+        let found = executed_own(rt.alloc(), second, slot, p1, p2, budget);
+        let marks = [Some(0), Some(mark), Some(mark), Some(0)];
+        assert_eq!(rt;
+            found,
+            Some((status, result, marks)),
+            "slot {slot}, budget {budget}"
+        );
     }
 }

@@ -6,7 +6,7 @@ use Rattle.bpf_model.specs.Memory.{windows_of}
 use Rattle.confined_view.specs.Touched.{window_bytes}
 use Rattle.device_model.specs.Execution.{memory_of}
 use Rattle.seq_device.proofs.Windows.{windows_short}
-use Rattle.seq_device.proofs.execution.view_of.Goals as goal
+use Rattle.seq_device.proofs.loaded.view_of.Goals as goal
 
 pub new-requires-clause-short : goal.new-requires-clause-short
 new-requires-clause-short c =

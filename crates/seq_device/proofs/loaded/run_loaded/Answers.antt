@@ -12,7 +12,7 @@ use Rattle.confined_view.specs.Touched.{Touched, window_bytes}
 use Rattle.device_model.specs.Execution.{Loaded, memory_of}
 use Rattle.seq_device.specs.Ranges.{AreAtHand, with_windows}
 use Rattle.seq_device.proofs.Windows.{apart, windows_left, windows_lengths}
-use Rattle.seq_device.proofs.execution.run_loaded.Goals as goal
+use Rattle.seq_device.proofs.loaded.run_loaded.Goals as goal
 
 -- what the view shows of the program, the ranges and the memory
 described : (slots : List (Option Insn)) (contents : Contents) (ranges : List MemRange) (view : Touched) (program : Program) → AreAtHand contents ranges

@@ -2,7 +2,7 @@ use Rattle.std.proofs.Common.{◌≡◌, take}
 use Rattle.bpf_model.specs.Memory.{read_write_of, windows_of}
 use Rattle.confined_view.specs.Touched.{window_bytes, writable_windows}
 use Rattle.device_model.specs.Execution.{memory_of}
-use Rattle.seq_device.proofs.execution.view_of.Given as goal
+use Rattle.seq_device.proofs.loaded.view_of.Given as goal
 
 -- the windows so far
 abbrev pub invariant-loop-range : goal.invariant-loop-range

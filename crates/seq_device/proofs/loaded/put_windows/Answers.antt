@@ -8,7 +8,7 @@ use Rattle.confined_view.specs.Touched.{window_bytes}
 use Rattle.confined_view.specs.declared.window.Window.{Window}
 use Rattle.seq_device.specs.Ranges.{IsAtHand, with_window, with_windows}
 use Rattle.seq_device.proofs.Windows.{still_at_hand, window_at_length, windows_more}
-use Rattle.seq_device.proofs.execution.put_windows.Goals as goal
+use Rattle.seq_device.proofs.loaded.put_windows.Goals as goal
 
 -- as many windows as ranges
 as_many : (windows : List Window) (ranges : List MemRange) → map (length {A = ℕ}) (window_bytes windows) ≡ lengths_of ranges → length windows ≡ length ranges
@@ -40,12 +40,11 @@ loop-index-preserved c =
     ∙ sym (ap (λ (w : Window). w.bytes.items) c.index-windows-index.is) in
     let len : length window.bytes.items ≡ range.len =
     ap (λ (w : Window). length w.bytes.items) c.index-windows-index.is ∙ window_at_length windows ranges i window none c.requires.lengths less in
-    let before : Contents = with_windows contents (take i ranges) (take i (window_bytes windows)) in
-    (
+    let before : Contents = with_windows contents (take i ranges) (take i (window_bytes windows)) in (
       c.put_window.ensures
-      ∙ (ap (λ (some : Contents). with_window some range window.bytes.items) c.loop-index.invariant.0
-      ∙ (ap (λ (bytes : List ℕ). with_window before range bytes) (sym here)
-      ∙ sym (windows_more contents ranges (window_bytes windows) i none window.bytes.items less (omega arith)))),
+          ∙ (ap (λ (some : Contents). with_window some range window.bytes.items) c.loop-index.invariant.0
+          ∙ (ap (λ (bytes : List ℕ). with_window before range bytes) (sym here)
+          ∙ sym (windows_more contents ranges (window_bytes windows) i none window.bytes.items less (omega arith)))),
       subst (λ (some : Contents). All (IsAtHand some) ranges) (sym c.put_window.ensures)
-      (still_at_hand c.loop-index.flat range window.bytes.items ranges (c.loop-index.invariant.1 i none less) len c.loop-index.invariant.1),
+          (still_at_hand c.loop-index.flat range window.bytes.items ranges (c.loop-index.invariant.1 i none less) len c.loop-index.invariant.1),
     )
