@@ -11,7 +11,7 @@ use Rattle.cp_base.specs.declared.lists.MemRange.{MemRange}
 use Rattle.cp_base.specs.declared.replies.Status.{Status}
 use Rattle.cp_base.specs.declared.replies.Status.TheVariants as status
 use Rattle.device_model.specs.Effect.{effect_of}
-use Rattle.device_model.specs.Execution.{tells}
+use Rattle.device_model.specs.Execution.{Outcome, tells}
 use Rattle.device_model.specs.State.{State}
 use Rattle.device_model.specs.Step.{outcome_of, refused_or_done}
 

@@ -39,7 +39,7 @@ IsCarriedOut old cmd answer new =
     (outcome_of old.config old.state cmd ≡ record { answer = answer; next = new.state } ⊎ FindsNoMemory old.config old.state cmd answer new.state)
     × (new.config ≡ old.config)
 
--- whether a command changes bytes where they are, with nothing that has to be kept beside them
+-- whether a command is carried out in what the device holds already, and needs no memory beside it
 abbrev pub works_in_place : Command → Bool
 works_in_place (command.NvmRead ns lba count) = false
 works_in_place (command.NvmWrite ns lba bytes) = true

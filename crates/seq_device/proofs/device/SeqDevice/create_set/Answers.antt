@@ -1,4 +1,4 @@
--- A new set is told with its number.
+-- A new set is told with its number, and a refused one with its status.
 use Rattle.std.proofs.Common.{refl, subst, ap, ◌∙◌}
 use Rattle.cp_base.specs.Answer.{answer_of}
 use Rattle.cp_base.specs.declared.commands.Command.TheVariants as command
@@ -6,7 +6,7 @@ use Rattle.cp_base.specs.declared.replies.Status.TheVariants as status
 use Rattle.device_model.specs.Execution.{tells}
 use Rattle.device_model.specs.State.{State}
 use Rattle.seq_device.specs.Standing.{Standing, IsDone}
-use Rattle.seq_device.proofs.Done.{set_made, set_refused}
+use Rattle.seq_device.proofs.NewSets.{set_made, set_refused}
 use Rattle.seq_device.proofs.device.SeqDevice.create_set.Goals.{in-Ok, in-Err}
 use Rattle.seq_device.proofs.device.SeqDevice.create_set.Goals as goal
 
