@@ -2,6 +2,7 @@ pub mod BuiltSends
 pub mod Counts
 pub mod Endings
 pub mod Fronts
+pub mod HexCode
 pub mod Inputs
 pub mod Legal
 pub mod OneOutput

@@ -1,12 +1,10 @@
 -- One question and one input have one output.
-use Rattle.std.proofs.Common.{◌≡◌, ℕ, ◌<◌, ◌≤◌, Bool, true, false, List, [], ◌++◌, length, codes, Option, Some, None, Result, Ok, Err, refl, sym, ap, ◌∙◌, subst, arith}
+use Rattle.std.proofs.Common.{◌≡◌, ℕ, ◌≤◌, List, length, codes, Option, Some, None, Result, Ok, Err, sym, ap, ◌∙◌, subst, arith}
 use Rattle.std.specs.Prelude.{unwrap_or}
 use Rattle.std.proofs.lemmas.Bool.{false≢true}
-use Rattle.cp_base.specs.declared.limits.TheConstants.{MAX_PROGRAM}
 use Rattle.bpf_model.specs.Walk.{bad_place}
 use Rattle.bpf_asm.specs.Text.{IsCodeOf, IsFaultyAt, text_of_code}
 use Rattle.bpf_asm.proofs.TextLaws.{not_faulty, one_code, one_fault}
-use Rattle.script_cmds.specs.declared.fault.ScriptFault.{ScriptFault}
 use Rattle.script_cmds.specs.declared.script.Script.{Script}
 use Rattle.script_cmds.specs.Fault.{first_fault}
 use Rattle.script_cmds.specs.Text.{lines_of}
@@ -14,7 +12,6 @@ use Rattle.script_cmds.proofs.OneText.{one_text}
 use Rattle.script_plan.proofs.FaultLines.{one_fault as one_breach, plan_or_fault}
 use Rattle.script_cmds.specs.declared.item.Phase.{Phase}
 use Rattle.history_model.specs.Legal.{IsLegal}
-use Rattle.history_model.specs.Plan.{PlanFault, plan_of}
 use Rattle.history_model.proofs.OneHistory.{one-history}
 use Rattle.nvmecp.specs.Asm.{IsAssembly, TellsAssembly}
 use Rattle.nvmecp.specs.Code.{code_in, hex_line}
@@ -28,7 +25,7 @@ use Rattle.nvmecp.specs.declared.words.Asked.TheVariants as asked
 
 -- what two options hold is one
 held : {A : Type 0} (x y : A) (o : Option A) → o ≡ Some x → o ≡ Some y → x ≡ y
-held x y o a b = ap (λ (found : Option A). unwrap_or found x) (sym a ∙ b)
+held {A = A} x y o a b = ap (λ (found : Option A). unwrap_or found x) (sym a ∙ b)
 
 -- an option holds something or nothing
 not_both : {A : Type 0} (x : A) (o : Option A) → o ≡ None → o ≡ Some x → ⊥

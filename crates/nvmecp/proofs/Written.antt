@@ -1,5 +1,5 @@
 -- Lines that are written one by one.
-use Rattle.std.proofs.Common.{◌≡◌, ℕ, zero, suc, ◌+◌, ◌<◌, ◌≤◌, List, [], ◌∷◌, ◌++◌, length, take, drop, get_or, map, Option, Result, Ok, Err, OnErr, sym, refl, ap, ◌∙◌, subst, arith}
+use Rattle.std.proofs.Common.{◌≡◌, ℕ, zero, suc, ◌+◌, ◌<◌, ◌≤◌, List, [], ◌∷◌, ◌++◌, length, take, drop, get_or, map, Option, Result, Ok, Err, OnErr, OnOk, sym, refl, ap, ◌∙◌, subst, arith}
 use Rattle.std.specs.List.{concat}
 use Rattle.std.specs.Io.KnownBytes.{Appends}
 use Rattle.std.proofs.KnownBytes.{Appends-trans}
@@ -102,3 +102,9 @@ shown_line contents shows i show below is =
 -- there are as many lines as shows
 pub count_shown : (contents : Contents) (shows : List Show) → length (shown_lines contents shows) ≡ length shows
 count_shown contents shows = length-map shows _
+
+-- what is written behind something is written with it
+pub both_written : {E : Type 0} (result : Result (Unit {0}) E) (old mid new : Option (List ℕ)) (first second : List ℕ) → Appends old mid first
+    → OnOk result (Appends mid new second) → OnOk result (Appends old new (first ++ second))
+both_written (Ok x) old mid new first second a b = Appends-trans old mid new first second a b
+both_written (Err e) old mid new first second a b = tt
