@@ -1,6 +1,8 @@
 // Worked runs: what no clause says, and that a run succeeds where there is memory.
 ghost use Rattle.std.specs.Prelude.{Some};
 
+mod programs;
+
 use crate::run::run;
 use cp_base::Bytes;
 use cp_io::{MemSink, MemSource, Sink, Took};
@@ -47,7 +49,7 @@ fn given(alloc: Global, words: &str, input: &str, output: &str) -> Option<(u8, b
 }
 
 // What an input gives: the status, and the text that is written.
-const CASES: [(&str, u8, &str); 28] = [
+const CASES: [(&str, u8, &str); 31] = [
     (
         WRITE,
         0,
@@ -177,6 +179,24 @@ const CASES: [(&str, u8, &str); 28] = [
         "nvmecp 1 block=512 depth=1 budget=1\nmem 1 bytes=16\nphase\nhost 1\nsend 1 abort cid=1\n",
         2,
         "line 5: Word\n",
+    ),
+    // Sets take the least free number.
+    (
+        "nvmecp 1 block=512 depth=16 budget=1000\nmem 1 bytes=16\nphase\nhost 1\nsend 1 setcreate ranges=1:0:8,1:4:8\ntake 1\nsend 2 setcreate ranges=1:0:8,1:8:8\ntake 2\nsend 3 setcreate ranges=1:8:9\ntake 3\nsend 4 setdelete set=2\ntake 4\nsend 5 setdelete set=1\ntake 5\nsend 6 setcreate ranges=1:15:1:r\ntake 6\n",
+        0,
+        "#1 h1 n1 c1 setcreate RangeOverlap r=0 d=\n#2 h1 n2 c2 setcreate Ok r=1 d=\n#3 h1 n3 c3 setcreate OutOfRange r=0 d=\n#4 h1 n4 c4 setdelete NoSuchSet r=0 d=\n#5 h1 n5 c5 setdelete Ok r=0 d=\n#6 h1 n6 c6 setcreate Ok r=1 d=\n",
+    ),
+    // A slot in each of its states.
+    (
+        "nvmecp 1 block=512 depth=16 budget=1000\nmem 1 bytes=16\nphase\nhost 1\nsend 1 activate slot=3\ntake 1\nsend 2 load slot=3 size=16 at=8 data=9500000000000000\ntake 2\nsend 3 load slot=3 size=16 at=8 data=9500000000000000\ntake 3\nsend 4 load slot=3 size=24 at=0 data=b700000007000000\ntake 4\nsend 5 activate slot=3\ntake 5\nsend 6 load slot=3 size=16 at=0 data=b700000007000000\ntake 6\nsend 7 load slot=3 size=16 at=0 data=b700000007000000\ntake 7\nsend 8 deactivate slot=3\ntake 8\nsend 9 activate slot=3\ntake 9\nsend 10 unload slot=3\ntake 10\nsend 11 activate slot=64\ntake 11\n",
+        0,
+        "#1 h1 n1 c1 activate SlotEmpty r=0 d=\n#2 h1 n2 c2 load Ok r=0 d=\n#3 h1 n3 c3 load PieceOverlap r=0 d=\n#4 h1 n4 c4 load SizeDiffers r=0 d=\n#5 h1 n5 c5 activate SlotPartial r=0 d=\n#6 h1 n6 c6 load Ok r=0 d=\n#7 h1 n7 c7 load SlotComplete r=0 d=\n#8 h1 n8 c8 deactivate SlotInactive r=0 d=\n#9 h1 n9 c9 activate Ok r=0 d=\n#10 h1 n10 c10 unload SlotActive r=0 d=\n#11 h1 n11 c11 activate NoSuchSlot r=0 d=\n",
+    ),
+    // Programs that are none.
+    (
+        "nvmecp 1 block=512 depth=16 budget=1000\nmem 1 bytes=16\nphase\nhost 1\nsend 1 load slot=0 size=8 at=0 data=ff00000000000000\ntake 1\nsend 2 activate slot=0\ntake 2\nsend 3 setcreate ranges=1:0:1\ntake 3\nsend 4 execute slot=0 set=1 p1=0 p2=0 budget=10\ntake 4\nsend 5 unload slot=0\ntake 5\nsend 6 load slot=0 size=16 at=0 data=b7000000010000001800000000000000\ntake 6\nsend 7 activate slot=0\ntake 7\nsend 8 execute slot=68 set=1 p1=0 p2=0 budget=10\ntake 8\n",
+        0,
+        "#1 h1 n1 c1 load Ok r=0 d=\n#2 h1 n2 c2 activate BadProgram r=0 d=\n#3 h1 n3 c3 setcreate Ok r=1 d=\n#4 h1 n4 c4 execute SlotInactive r=0 d=\n#5 h1 n5 c5 unload Ok r=0 d=\n#6 h1 n6 c6 load Ok r=0 d=\n#7 h1 n7 c7 activate BadProgram r=1 d=\n#8 h1 n8 c8 execute NoSuchSlot r=0 d=\n",
     ),
     // NVM namespaces stand before those of memory.
     (
