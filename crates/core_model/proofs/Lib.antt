@@ -1,0 +1,17 @@
+pub mod Allowing
+pub mod Apart
+pub mod Choosing
+pub mod Claiming
+pub mod Doing
+pub mod Entries
+pub mod Fetching
+pub mod Finishing
+pub mod Homing
+pub mod Numbers
+pub mod Queueing
+pub mod Only
+pub mod Quiet
+pub mod Reading
+pub mod Shown
+pub mod Steps
+pub mod Tabling
