@@ -1,0 +1,8 @@
+pub mod Fits
+pub mod Kept
+pub mod Lines
+pub mod Planned
+pub mod Printed
+pub mod Script
+pub mod Sound
+pub mod Turns

@@ -1,0 +1,118 @@
+-- The lines of a load are sized and built.
+use Rattle.std.proofs.Common.{◌≡◌, ℕ, zero, suc, ◌+◌, ◌/◌, ◌%◌, ◌^◌, ◌<◌, ◌≤◌, ◌==◌, Bool, true, false, ◌&&◌, List, [], ◌∷◌, ◌++◌, length, refl, sym, ap, subst, ◌∙◌, arith}
+use Rattle.std.specs.Prelude.{if◌then◌else◌, nat_lt, All}
+use Rattle.std.specs.List.{list_all}
+use Rattle.std.proofs.lemmas.Bool.{and_parts, ltb-true}
+use Rattle.std.proofs.lemmas.List.Elements.{All-append, All-cons, All-nil}
+use Rattle.std.proofs.lemmas.List.Folds.{list_all-append}
+use Rattle.cp_base.specs.declared.lists.MemRange.{MemRange}
+use Rattle.script_line.specs.Field.{Value, Count, Data, Copied, Covered}
+use Rattle.script_line.specs.Line.{Line, send_line}
+use Rattle.script_line.specs.Reading.{is_built_kind}
+use Rattle.script_line.specs.Sized.{AreSized, IsSized, IsSizedLine, IsSizedRange}
+use Rattle.script_line.specs.declared.kind.LineKind.TheVariants as line
+use Rattle.script_cmds.specs.Kept.{are_built_lines}
+use Rattle.script_cmds.specs.Text.{numbers_line}
+use Rattle.load_maker.specs.Load.{device_lines, host_line, host_part, host_turns, load_lines, ready_lines, seed_word, take_line, turn_lines, turn_takes, word_command, work_lines}
+use Rattle.load_maker.proofs.Fits.{command_built, command_sized, take_sized}
+use Rattle.load_maker.proofs.Turns.{own_lines}
+
+-- ---- by a test
+
+all_of : {X : Type 0} (P : X → Type 0) (test : X → Bool) → ((x : X) → test x ≡ true → P x) → (xs : List X) → list_all test xs ≡ true → All P xs
+all_of P test sound [] h = All-nil P
+all_of P test sound (x ∷ xs) h =
+    let parts = and_parts (test x) (list_all test xs) h in
+    All-cons P x xs (sound x parts.0) (all_of P test sound xs parts.1)
+
+is_sized_range : MemRange → Bool
+is_sized_range range = nat_lt range.ns (2 ^ 64) && (nat_lt range.at (2 ^ 64) && nat_lt range.len (2 ^ 64))
+
+is_sized : Value → Bool
+is_sized (Count n) = nat_lt n (2 ^ 64)
+is_sized (Data bytes) = list_all (λ b. nat_lt b 256) bytes
+is_sized (Copied sources) = false
+is_sized (Covered ranges) = nat_lt 0 (length ranges) && list_all is_sized_range ranges
+
+range_sound : (range : MemRange) → is_sized_range range ≡ true → IsSizedRange range
+unfolding is_sized_range
+range_sound range h =
+    let first = and_parts (nat_lt range.ns (2 ^ 64)) (nat_lt range.at (2 ^ 64) && nat_lt range.len (2 ^ 64)) h in
+    let rest = and_parts (nat_lt range.at (2 ^ 64)) (nat_lt range.len (2 ^ 64)) first.1 in
+    (ltb-true _ _ first.0, ltb-true _ _ rest.0, ltb-true _ _ rest.1)
+
+value_sound : (v : Value) → is_sized v ≡ true → IsSized v
+unfolding is_sized
+value_sound (Count n) h = ltb-true _ _ h
+value_sound (Data bytes) h = all_of (λ b. b < 256) (λ b. nat_lt b 256) (λ b t. ltb-true _ _ t) bytes h
+value_sound (Copied sources) h = absurd cc
+value_sound (Covered ranges) h =
+    let parts = and_parts (nat_lt 0 (length ranges)) (list_all is_sized_range ranges) h in
+    (ltb-true _ _ parts.0, all_of IsSizedRange is_sized_range range_sound ranges parts.1)
+
+is_sized_line : Line → Bool
+is_sized_line l = list_all is_sized l.values
+
+lines_sound : (ls : List Line) → list_all is_sized_line ls ≡ true → AreSized ls
+unfolding is_sized_line
+lines_sound ls h = all_of IsSizedLine (λ (l : Line). list_all is_sized l.values) (λ l t. all_of IsSized is_sized value_sound l.values t) ls h
+
+-- ---- lines of both facts
+
+pub record IsSound (lines : List Line) : Type 0 where
+  pub sized : AreSized lines
+  pub built : are_built_lines lines ≡ true
+
+none : IsSound []
+none = record { sized = All-nil IsSizedLine; built = refl }
+
+one : (l : Line) → IsSizedLine l → is_built_kind l.kind ≡ true → IsSound (l ∷ [])
+one l s b = record { sized = All-cons IsSizedLine l [] s (All-nil IsSizedLine); built = rw b refl }
+
+join : (xs ys : List Line) → IsSound xs → IsSound ys → IsSound (xs ++ ys)
+join xs ys p q = record {
+  sized = All-append IsSizedLine xs ys p.sized q.sized;
+  built = list_all-append (λ (l : Line). is_built_kind l.kind) xs ys ∙ rw (p.built, q.built) refl;
+}
+
+takes_sound : (number : ℕ) (test : Bool) → IsSound (if test then [] else take_line (number % 16) ∷ [])
+takes_sound number true = none
+takes_sound number false = one (take_line (number % 16)) (take_sized (number % 16) (omega arith)) refl
+
+turn_sound : (number word : ℕ) → IsSound (turn_lines number (word_command word))
+turn_sound number word =
+    join (turn_takes number) (send_line (number % 16) (word_command word) ∷ []) (takes_sound number (nat_lt number 16))
+    (one (send_line (number % 16) (word_command word)) (command_sized (number % 16) word (omega arith)) (command_built (number % 16) word))
+
+own_sound : (number word : ℕ) (test : Bool) → IsSound (if test then turn_lines (number / 4) (word_command word) else [])
+own_sound number word true = turn_sound (number / 4) word
+own_sound number word false = none
+
+turns_sound : (seed host n : ℕ) → IsSound (host_turns seed host n)
+turns_sound seed host zero = none
+turns_sound seed host (suc n) =
+    join (host_turns seed host n) (own_lines host n (seed_word seed n)) (turns_sound seed host n)
+    (own_sound n (seed_word seed n) (n % 4 == host))
+
+closed : (ls : List Line) → list_all is_sized_line ls ≡ true → are_built_lines ls ≡ true → IsSound ls
+closed ls s b = record { sized = lines_sound ls s; built = b }
+
+part_sound : (seed n host : ℕ) → host < 4 → IsSound (host_part seed n host)
+part_sound seed n host low =
+    let small : host + 1 < 2 ^ 64 = omega arith in
+    join (host_line (host + 1) ∷ []) (host_turns seed host n)
+    (one (host_line (host + 1)) (All-cons IsSized (Count (host + 1)) [] small (All-nil IsSized)) refl) (turns_sound seed host n)
+
+pub begun_sound : IsSound (device_lines ++ ready_lines ++ (numbers_line line.Phase [] ∷ []))
+unfolding is_sized_line is_sized is_sized_range
+begun_sound = closed (device_lines ++ ready_lines ++ (numbers_line line.Phase [] ∷ [])) refl refl
+
+-- the whole load
+pub load_sound : (seed n : ℕ) → IsSound (load_lines seed n)
+load_sound seed n =
+    let begun = device_lines ++ ready_lines ++ (numbers_line line.Phase [] ∷ []) in
+    let p = host_part seed n in
+    let a = join begun (p 0) begun_sound (part_sound seed n 0 (omega arith)) in
+    let b = join (begun ++ p 0) (p 1) a (part_sound seed n 1 (omega arith)) in
+    let c = join (begun ++ p 0 ++ p 1) (p 2) b (part_sound seed n 2 (omega arith)) in
+    join (begun ++ p 0 ++ p 1 ++ p 2) (p 3) c (part_sound seed n 3 (omega arith))
