@@ -8,4 +8,4 @@ mod tests;
 mod writing;
 
 pub use laws::load_laws;
-pub use writing::{MAX_COMMANDS, make};
+pub use writing::make;

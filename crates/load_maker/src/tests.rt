@@ -1,5 +1,6 @@
 use super::*;
 use cp_base::Bytes;
+use cp_line::MAX_MADE;
 use cp_text::{push_hex, push_piece};
 use std::test::Fail;
 
@@ -33,8 +34,8 @@ fn no_command_leaves_four_empty_parts(rt: HostRuntime) -> Result<(), Fail> {
 // The first twenty lines of a load, whose whole text is the same each time and inside the limit of scripts.
 #[test]
 fn first_commands_of_seed_7_are_made(rt: HostRuntime) -> Result<(), Fail> {
-    let text = make(rt.alloc(), 7, 8192)?;
-    let again = make(rt.alloc(), 7, 8192)?;
+    let text = make(rt.alloc(), 7, MAX_MADE)?;
+    let again = make(rt.alloc(), 7, MAX_MADE)?;
     assert!(rt; text.as_slice() == again.as_slice());
     assert!(rt; text.len() < 9_500_000);
     let mut wanted = Bytes::from_slice(rt.alloc(), READY.as_bytes())?;

@@ -11,15 +11,13 @@ ghost use Rattle.load_maker.specs.Made.{PrintsLines};
 
 use crate::command::command_of;
 use cp_base::{Access, Bytes, Command, MemRange, NoMemory, RangeList};
+use cp_line::MAX_MADE;
 use rand_core::SeedableRng;
 use rand_core::utils::NextWord;
 use rand_xoshiro::SplitMix64;
 use script_line::FieldContent::Count;
 use script_line::{LineKind, SpaceKind, push_line, push_send};
 use std::alloc::Global;
-
-/// The most commands of a load behind those that make the device ready.
-pub const MAX_COMMANDS: u32 = 8_192;
 
 // The hosts of the second phase.
 const HOSTS: u32 = 4;
@@ -41,7 +39,7 @@ const PROGRAM: [u8; 48] = [
 /// program ready; then four hosts send the commands, which the words of SplitMix64 choose, every fourth command
 /// one host. `NoMemory` where memory is wanting.
 pub fn make(alloc: Global, seed: u64, commands: u32) -> Result<Bytes, NoMemory>
-    requires { commands ≤ 8192 }
+    requires { commands ≤ MAX_MADE }
     ensures text { IfOk result (λ text. text.items ≡ load_text seed commands) }
     ensures sized { OnOk result (AreSized (load_lines seed commands)) }
 {

@@ -11,12 +11,18 @@ fn device(alloc: Global, bytes: u32) -> Option<SeqDevice> {
     SeqDevice::new(alloc, &config).ok()
 }
 
+// What a command is told: its status and its result.
+fn answer(device: &mut SeqDevice, command: &Command) -> (Status, u64) {
+    let reply = device.step(command);
+    (reply.status, reply.result)
+}
+
 // The status of a write of so many bytes, each 1, and the first byte after it.
 fn write(alloc: Global, bytes: u32, ns: u32, at: u64, len: u64) -> Option<(Status, Option<u8>)> {
     let mut device = device(alloc, bytes)?;
     let bytes = Bytes::filled(alloc, len, 1).ok()?;
-    let reply = device.step(&Command::MemWrite { ns, at, bytes });
-    Some((reply.status, device.byte(SpaceId::Mem(1), at)))
+    let (status, _) = answer(&mut device, &Command::MemWrite { ns, at, bytes });
+    Some((status, device.byte(SpaceId::Mem(1), at)))
 }
 
 #[test]
@@ -40,11 +46,14 @@ fn writes_are_checked_in_order(rt: HostRuntime) {
 fn read(alloc: Global, len: u64) -> Option<(Status, u64, Option<u8>)> {
     let mut device = device(alloc, 16_384)?;
     let bytes = Bytes::from_slice(alloc, &[1, 2]).ok()?;
-    let _ = device.step(&Command::MemWrite {
-        ns: 1,
-        at: 0,
-        bytes,
-    });
+    let _ = answer(
+        &mut device,
+        &Command::MemWrite {
+            ns: 1,
+            at: 0,
+            bytes,
+        },
+    );
     let reply = device.step(&Command::MemRead { ns: 1, at: 0, len });
     let read = reply.bytes.len();
     Some((reply.status, read, reply.bytes.get(read.saturating_sub(1))))
@@ -74,15 +83,18 @@ fn copy(
 ) -> Option<(Status, Option<u8>, Option<u8>)> {
     let mut device = device(alloc, 16)?;
     let bytes = Bytes::from_slice(alloc, &[0, 1, 2, 3, 4, 5]).ok()?;
-    let _ = device.step(&Command::MemWrite {
-        ns: 1,
-        at: 0,
-        bytes,
-    });
+    let _ = answer(
+        &mut device,
+        &Command::MemWrite {
+            ns: 1,
+            at: 0,
+            bytes,
+        },
+    );
     let from = SourceList::new(alloc, sources)?;
-    let reply = device.step(&Command::MemCopy { ns: 1, at, from });
+    let (status, _) = answer(&mut device, &Command::MemCopy { ns: 1, at, from });
     let space = SpaceId::Mem(1);
-    Some((reply.status, device.byte(space, 8), device.byte(space, 15)))
+    Some((status, device.byte(space, 8), device.byte(space, 15)))
 }
 
 #[test]
@@ -124,15 +136,18 @@ fn spans(alloc: Global, len: u64, lba: u64, count: u64) -> Option<(Status, Statu
         .with_size(SpaceId::Nvm(1), 8)?
         .with_size(SpaceId::Mem(1), 16)?;
     let mut device = SeqDevice::new(alloc, &config).ok()?;
-    let fill = device.step(&Command::MemFill {
-        ns: 1,
-        at: 0,
-        len,
-        value: 9,
-    });
-    let zeroes = device.step(&Command::NvmZeroes { ns: 1, lba, count });
+    let (fill, _) = answer(
+        &mut device,
+        &Command::MemFill {
+            ns: 1,
+            at: 0,
+            len,
+            value: 9,
+        },
+    );
+    let (zeroes, _) = answer(&mut device, &Command::NvmZeroes { ns: 1, lba, count });
     let read = device.step(&Command::NvmRead { ns: 1, lba, count });
-    Some((fill.status, zeroes.status, read.status, read.bytes.len()))
+    Some((fill, zeroes, read.status, read.bytes.len()))
 }
 
 #[test]
@@ -179,33 +194,33 @@ fn range(at: u64, len: u64) -> MemRange {
     }
 }
 
-// The status and the result of a command on a device.
+// The command of a step. `None` where there is no memory.
+fn command_of(alloc: Global, step: Step) -> Option<Command> {
+    match step {
+        Step::Create(range) => Some(Command::SetCreate {
+            ranges: RangeList::new(alloc, &[range])?,
+        }),
+        Step::CreateOfTwo(first, second) => Some(Command::SetCreate {
+            ranges: RangeList::new(alloc, &[first, second])?,
+        }),
+        Step::Delete(set) => Some(Command::SetDelete { set }),
+        Step::Load(slot, size, at, piece) => Some(Command::Load {
+            slot,
+            size,
+            at,
+            bytes: Bytes::from_slice(alloc, &piece).ok()?,
+        }),
+        Step::Unload(slot) => Some(Command::Unload { slot }),
+        Step::Activate(slot) => Some(Command::Activate { slot }),
+        Step::Deactivate(slot) => Some(Command::Deactivate { slot }),
+        Step::Abort(cid) => Some(Command::Abort { cid }),
+    }
+}
+
+// What a step is told.
 fn told(alloc: Global, device: &mut SeqDevice, step: Step) -> Option<(Status, u64)> {
-    let reply = match step {
-        Step::Create(range) => {
-            let ranges = RangeList::new(alloc, &[range])?;
-            device.step(&Command::SetCreate { ranges })
-        }
-        Step::CreateOfTwo(first, second) => {
-            let ranges = RangeList::new(alloc, &[first, second])?;
-            device.step(&Command::SetCreate { ranges })
-        }
-        Step::Delete(set) => device.step(&Command::SetDelete { set }),
-        Step::Load(slot, size, at, piece) => {
-            let bytes = Bytes::from_slice(alloc, &piece).ok()?;
-            device.step(&Command::Load {
-                slot,
-                size,
-                at,
-                bytes,
-            })
-        }
-        Step::Unload(slot) => device.step(&Command::Unload { slot }),
-        Step::Activate(slot) => device.step(&Command::Activate { slot }),
-        Step::Deactivate(slot) => device.step(&Command::Deactivate { slot }),
-        Step::Abort(cid) => device.step(&Command::Abort { cid }),
-    };
-    Some((reply.status, reply.result))
+    let command = command_of(alloc, step)?;
+    Some(answer(device, &command))
 }
 
 #[test]
@@ -276,32 +291,35 @@ fn executed(
 ) -> Option<(Status, u64, Option<u8>, Option<u8>)> {
     let mut device = device(alloc, 16)?;
     let bytes = Bytes::from_slice(alloc, &[1, 2, 3, 4]).ok()?;
-    let _ = device.step(&Command::MemWrite {
-        ns: 1,
-        at: 0,
-        bytes,
-    });
-    let ranges = RangeList::new(alloc, &[range])?;
-    let _ = device.step(&Command::SetCreate { ranges });
-    let bytes = Bytes::from_slice(alloc, code).ok()?;
-    let _ = device.step(&Command::Load {
+    let _ = answer(
+        &mut device,
+        &Command::MemWrite {
+            ns: 1,
+            at: 0,
+            bytes,
+        },
+    );
+    let _ = told(alloc, &mut device, Step::Create(range));
+    let load = Command::Load {
         slot: 0,
-        size: bytes.len(),
+        size: code.len() as u64,
         at: 0,
-        bytes,
-    });
-    let _ = device.step(&Command::Activate { slot: 0 });
-    let reply = device.step(&Command::Execute {
+        bytes: Bytes::from_slice(alloc, code).ok()?,
+    };
+    let _ = answer(&mut device, &load);
+    let _ = told(alloc, &mut device, Step::Activate(0));
+    let execute = Command::Execute {
         slot: 0,
         set: 1,
         p1: 4,
         p2: 0,
         budget,
-    });
+    };
+    let (status, result) = answer(&mut device, &execute);
     let memory = SpaceId::Mem(1);
     Some((
-        reply.status,
-        reply.result,
+        status,
+        result,
         device.byte(memory, 0),
         device.byte(memory, 8),
     ))
@@ -396,34 +414,35 @@ fn executed_own(
     let mut device = device(alloc, 32)?;
     let bytes = [0, 1, 2, 3, 4, 5, 6, 7, 8, 9, 10, 11, 12, 13, 14, 15];
     let bytes = Bytes::from_slice(alloc, &bytes).ok()?;
-    let _ = device.step(&Command::MemWrite {
-        ns: 1,
-        at: 0,
-        bytes,
-    });
+    let _ = answer(
+        &mut device,
+        &Command::MemWrite {
+            ns: 1,
+            at: 0,
+            bytes,
+        },
+    );
     let ranges = match second {
-        Some(access) => RangeList::new(
-            alloc,
-            &[
-                range(0, 16),
-                MemRange {
-                    access,
-                    ..range(16, 16)
-                },
-            ],
-        )?,
-        None => RangeList::new(alloc, &[range(0, 16)])?,
+        Some(access) => {
+            let last = MemRange {
+                access,
+                ..range(16, 16)
+            };
+            Step::CreateOfTwo(range(0, 16), last)
+        }
+        None => Step::Create(range(0, 16)),
     };
-    let _ = device.step(&Command::SetCreate { ranges });
-    let reply = device.step(&Command::Execute {
+    let _ = told(alloc, &mut device, ranges);
+    let execute = Command::Execute {
         slot,
         set: 1,
         p1,
         p2,
         budget,
-    });
+    };
+    let (status, result) = answer(&mut device, &execute);
     let bytes = [18, 19, 21, 22].map(|place| device.byte(SpaceId::Mem(1), place));
-    Some((reply.status, reply.result, bytes))
+    Some((status, result, bytes))
 }
 
 #[test]
