@@ -49,7 +49,7 @@ fn given(alloc: Global, words: &str, input: &str, output: &str) -> Option<(u8, b
 }
 
 // What an input gives: the status, and the text that is written.
-const CASES: [(&str, u8, &str); 31] = [
+const CASES: [(&str, u8, &str); 32] = [
     (
         WRITE,
         0,
@@ -80,6 +80,12 @@ const CASES: [(&str, u8, &str); 31] = [
         "nvmecp 1 block=512 depth=16 budget=1000\nmem 1 bytes=16\nphase\nhost 1\nsend 1 memwrite ns=1 at=0 data=01\nhost 2\nsend 1 memwrite ns=1 at=1 data=02\nphase\nhost 2\nsend 1 memread ns=1 at=0 len=2\n",
         0,
         "#1 h1 n1 c1 memwrite Ok r=0 d=\n#2 h2 n1 c1 memwrite Ok r=0 d=\n#3 h2 n2 c1 memread Ok r=0 d=0102\n",
+    ),
+    // A host of a higher number acts in the earlier phase.
+    (
+        "nvmecp 1 block=512 depth=16 budget=1000\nmem 1 bytes=16\nphase\nhost 2\nsend 1 memwrite ns=1 at=0 data=07\nphase\nhost 1\nsend 1 memread ns=1 at=0 len=1\n",
+        0,
+        "#1 h2 n1 c1 memwrite Ok r=0 d=\n#2 h1 n1 c1 memread Ok r=0 d=07\n",
     ),
     // No host acts.
     ("nvmecp 1 block=512 depth=16 budget=1000\n", 0, ""),
