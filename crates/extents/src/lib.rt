@@ -3,6 +3,8 @@
 
 mod extents;
 mod space;
+#[cfg(test)]
+mod tests;
 mod tiles;
 
 pub use extents::Extents;
