@@ -1,14 +1,14 @@
 -- Cutting an extent in two, and what stays the same.
-use Rattle.std.proofs.Common.{◌≡◌, ℕ, ◌+◌, ◌-◌, ◌<◌, ◌≤◌, List, [], ◌∷◌, ◌++◌, Option, Some, None, length, take, drop, map, sym, refl, ap, ◌∙◌, subst, ◌⊎◌, ⊎_elim, inl, inr, arith}
+use Rattle.std.proofs.Common.{◌≡◌, ℕ, ◌+◌, ◌-◌, ◌<◌, ◌≤◌, List, [], ◌∷◌, ◌++◌, Option, Some, length, take, drop, map, sym, refl, ap, ◌∙◌, subst, ⊎_elim, arith}
 use Rattle.std.specs.BTreeMap.{insert_entry}
 use Rattle.std.specs.Ordering.{nat_cmp}
 use Rattle.std.proofs.lemmas.Bool.{cases_lt}
-use Rattle.std.proofs.lemmas.List.{append_assoc, length-append, length-drop, length-map, length-take-le, map-append, take-append-drop}
+use Rattle.std.proofs.lemmas.List.{append_assoc, length-drop, length-take-le, map-append, take-append-drop}
 use Rattle.cp_base.specs.Buffer.{Buffer}
 use Rattle.extents.specs.declared.tiles.Extent.{Extent}
-use Rattle.extents.specs.declared.tiles.Extent.TheVariants.{Home, Out}
-use Rattle.extents.specs.Tiles.{AreTiles, IsEdge, IsRecut, all_holes, all_shown, extent_len, hole_at, shown_by}
-use Rattle.extents.proofs.Tiling.{Middle, Stands, holes-append, insert_behind, insert_there, long, long-append, long-cons, parted, shown-append, tiles-append, tiles_split}
+use Rattle.extents.specs.declared.tiles.Extent.TheVariants.{Home}
+use Rattle.extents.specs.Tiles.{AreTiles, IsEdge, IsRecut, all_holes, all_shown, extent_len}
+use Rattle.extents.proofs.Tiling.{Stands, holes-append, insert_behind, insert_there, long, long-append, long-cons, parted, shown-append, tiles-append, tiles_split}
 
 -- an extent that is cut at a place within it, and its two parts
 pub record Cut (es new : List (ℕ × Extent)) (s at : ℕ) (b front rest : Buffer) : Type 0 where

@@ -1,8 +1,8 @@
 -- Extents that are joined to one, and those that are taken away between two places.
-use Rattle.std.proofs.Common.{◌≡◌, ℕ, zero, suc, ◌+◌, ◌-◌, ◌<◌, ◌≤◌, Bool, true, false, cond, not, ◌||◌, ◌&&◌, List, [], ◌∷◌, ◌++◌, Option, Some, None, length, take, drop, map, replicate, sym, refl, ap, ◌∙◌, subst, ◌⊎◌, ⊎_elim, inl, inr, arith}
+use Rattle.std.proofs.Common.{◌≡◌, ℕ, zero, suc, ◌+◌, ◌-◌, ◌<◌, ◌≤◌, Bool, true, false, cond, not, ◌&&◌, List, [], ◌∷◌, ◌++◌, Option, Some, None, length, take, drop, map, replicate, sym, refl, ap, ◌∙◌, subst, ⊎_elim, arith}
 use Rattle.std.specs.BTreeMap.{BTreeMap, insert_entry, is_at}
 use Rattle.std.specs.BTreeMap.Range.{IsEntryInRange, entries_between, range_contains}
-use Rattle.std.specs.List.{filter, slice_get}
+use Rattle.std.specs.List.{slice_get}
 use Rattle.std.specs.Option.{IfSome}
 use Rattle.std.specs.Result.{IsOk, OnErr}
 use Rattle.std.specs.declared.result.Result.{Result}
@@ -12,14 +12,14 @@ use Rattle.std.specs.Map.{lookup, remove_entry}
 use Rattle.std.specs.Ordering.{is_lt, nat_cmp}
 use Rattle.std.specs.declared.ops.Bound.TheVariants.{Excluded, Included}
 use Rattle.std.proofs.lemmas.Bool.{cases_Bool, cases_eq, cases_lt, eq-eqb, le-ltb, lt-ltb, ne_eqb}
-use Rattle.std.proofs.lemmas.List.{append-nil, append_assoc, drop-map, drop_at, length-append, length-map, take_at}
+use Rattle.std.proofs.lemmas.List.{drop-map, drop_at, length-map, take_at}
 use Rattle.std.proofs.lemmas.List.Elements.{filter-append}
 use Rattle.cp_base.specs.Buffer.{Buffer}
 use Rattle.cp_base.specs.Pieces.{piece}
 use Rattle.extents.specs.declared.tiles.Extent.{Extent}
 use Rattle.extents.specs.declared.tiles.Extent.TheVariants.{Home, Out}
-use Rattle.extents.specs.Tiles.{AreBetween, AreTiles, HasExtent, IsEdge, IsOneExtent, IsRecut, all_holes, all_shown, extent_len, hole_at, shown_by, without_between}
-use Rattle.extents.proofs.Tiling.{Middle, holes-append, insert_there, length-shown, long, long-append, long-cons, lookup_there, parted, shown-append, tiles-append, tiles_split, up_to_bound}
+use Rattle.extents.specs.Tiles.{AreBetween, AreTiles, HasExtent, IsEdge, IsOneExtent, IsRecut, all_holes, all_shown, extent_len, without_between}
+use Rattle.extents.proofs.Tiling.{holes-append, insert_there, long, long-append, long-cons, lookup_there, parted, shown-append, tiles-append, tiles_split, up_to_bound}
 
 -- whether an extent begins between two places
 abbrev between : ℕ → ℕ → ℕ → Bool

@@ -1,13 +1,13 @@
 -- Parts of the bytes that extents show.
-use Rattle.std.proofs.Common.{◌≡◌, ℕ, ◌+◌, ◌-◌, ◌<◌, ◌≤◌, List, [], ◌∷◌, ◌++◌, Option, Some, None, length, take, drop, map, get_or, sym, refl, ap, ◌∙◌, subst, arith}
-use Rattle.std.proofs.lemmas.List.{append-nil, append_assoc, drop-append-le, drop-drop, drop-map, drop_at, length-append, length-drop, length-map, map-append, length-take-le, take-append-le, take-map}
+use Rattle.std.proofs.Common.{◌≡◌, ℕ, ◌+◌, ◌-◌, ◌≤◌, List, ◌∷◌, ◌++◌, Option, Some, length, take, drop, map, sym, ap, ◌∙◌, arith}
+use Rattle.std.proofs.lemmas.List.{append_assoc, drop-append-le, drop-drop, drop-map, drop_at, length-drop, length-map, map-append, take-append-le, take-map}
 use Rattle.std.proofs.Math.Seq.{take-add}
 use Rattle.cp_base.specs.Buffer.{Buffer}
 use Rattle.cp_base.specs.Pieces.{piece}
 use Rattle.extents.specs.declared.tiles.Extent.{Extent}
-use Rattle.extents.specs.declared.tiles.Extent.TheVariants.{Home, Out}
-use Rattle.extents.specs.Tiles.{AreTiles, all_shown, extent_len, shown_by}
-use Rattle.extents.proofs.Tiling.{Stands, long, shown-append}
+use Rattle.extents.specs.declared.tiles.Extent.TheVariants.{Home}
+use Rattle.extents.specs.Tiles.{all_shown}
+use Rattle.extents.proofs.Tiling.{Stands, shown-append}
 
 drop_behind : {A : Type 0} (xs ys : List A) (n k : ℕ) → length xs ≡ n → drop (n + k) (xs ++ ys) ≡ drop k ys
 drop_behind xs ys n k size = sym (drop-drop k n (xs ++ ys)) ∙ ap (drop k) (drop_at xs ys n size)

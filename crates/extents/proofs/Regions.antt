@@ -1,10 +1,10 @@
 -- The bytes of a region of one of the namespaces.
-use Rattle.std.proofs.Common.{◌≡◌, ℕ, zero, suc, ◌*◌, ◌+◌, ◌-◌, ◌<◌, ◌≤◌, Bool, true, false, not, eqb, ◌||◌, ◌&&◌, List, [], ◌∷◌, ◌++◌, Option, Some, None, length, take, drop, map, replicate, get_or, set, sym, refl, ap, ◌∙◌, subst, ◌⊎◌, ⊎_elim, inl, inr, arith, unwrap_or, slice_get}
+use Rattle.std.proofs.Common.{◌≡◌, ℕ, zero, suc, ◌*◌, ◌+◌, ◌-◌, ◌<◌, ◌≤◌, Bool, true, false, not, ◌||◌, ◌&&◌, List, [], ◌∷◌, ◌++◌, Option, Some, None, length, take, drop, map, replicate, get_or, set, sym, refl, ap, ◌∙◌, subst, ◌⊎◌, ⊎_elim, inl, inr, arith, unwrap_or, slice_get}
 use Rattle.std.specs.Option.{IsSome, MatchOption}
 use Rattle.std.specs.Result.{IfOk, OnOk}
 use Rattle.std.specs.declared.result.Result.{Result}
 use Rattle.std.specs.declared.result.Result.TheVariants.{Err, Ok}
-use Rattle.std.proofs.lemmas.Bool.{cases_eq, cases_lt, eqb-true, eq-eqb, ne_eqb}
+use Rattle.std.proofs.lemmas.Bool.{cases_eq, cases_lt, eq-eqb, ne_eqb}
 use Rattle.std.proofs.lemmas.List.{append_assoc, drop-map, drop_at, get_or-append_right, get_or-drop, get_or-map, get_or-take, get_or_append_left, get_or-set_same, get_or_past, length-append, length-drop, length-map, length-replicate, length-set, length-take-le, take-append-drop, take-map, take_at}
 use Rattle.std.proofs.lemmas.Option.{slice_get-get_or, slice_get_past}
 use Rattle.cp_base.specs.Configuration.{Configuration, numbered}
@@ -14,7 +14,7 @@ use Rattle.cp_base.specs.Region.{Region}
 use Rattle.cp_base.specs.Sharing.{IsIn, same_space}
 use Rattle.cp_base.specs.declared.region.SpaceId.{SpaceId}
 use Rattle.cp_base.specs.declared.region.SpaceId.TheVariants.{Nvm, Mem}
-use Rattle.extents.specs.Homes.{AreBytesAt, AreHere, Homes, IsAtHome, IsBroughtBack, IsSpacePut, IsSpaceTaken, IsTakenAway, SpaceHome, has_hole, home_of, home_under, is_hole, known_at, same_hole, same_region, zero_spaces}
+use Rattle.extents.specs.Homes.{AreBytesAt, AreHere, Homes, IsAtHome, IsBroughtBack, IsSpacePut, IsSpaceTaken, IsTakenAway, SpaceHome, has_hole, home_of, home_under, is_hole, known_at, same_hole, zero_spaces}
 use Rattle.extents.proofs.Tiling.{no_byte}
 
 -- whether two namespaces are the same

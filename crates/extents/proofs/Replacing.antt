@@ -1,17 +1,16 @@
 -- An extent in place of another that is as long.
-use Rattle.std.proofs.Common.{◌≡◌, ℕ, ◌+◌, ◌-◌, ◌<◌, ◌≤◌, Bool, true, false, not, eqb, ◌||◌, ◌&&◌, List, [], ◌∷◌, ◌++◌, Option, Some, None, length, take, drop, map, replicate, sym, refl, ap, ◌∙◌, subst, ◌⊎◌, ⊎_elim, inl, inr, arith}
+use Rattle.std.proofs.Common.{◌≡◌, ℕ, ◌+◌, ◌-◌, ◌<◌, ◌≤◌, Bool, true, false, not, eqb, ◌||◌, ◌&&◌, List, [], ◌∷◌, ◌++◌, Option, length, drop, sym, refl, ap, ◌∙◌, subst, ◌⊎◌, ⊎_elim, inl, inr, arith}
 use Rattle.std.specs.BTreeMap.{insert_entry}
-use Rattle.std.specs.List.{list_any}
 use Rattle.std.specs.Ordering.{nat_cmp}
 use Rattle.std.proofs.lemmas.Bool.{and_parts, cases_Bool, eqb-true, ne_eqb}
-use Rattle.std.proofs.lemmas.List.{append_assoc, drop_at, length-append, length-map, length-replicate, take_at}
+use Rattle.std.proofs.lemmas.List.{append_assoc, drop_at, length-append, take_at}
 use Rattle.std.proofs.lemmas.List.Folds.{list_any-append}
 use Rattle.cp_base.specs.Buffer.{Buffer}
-use Rattle.cp_base.specs.Pieces.{patched, piece}
+use Rattle.cp_base.specs.Pieces.{patched}
 use Rattle.extents.specs.declared.tiles.Extent.{Extent}
 use Rattle.extents.specs.declared.tiles.Extent.TheVariants.{Home, Out}
 use Rattle.extents.specs.Homes.{has_hole, same_hole}
-use Rattle.extents.specs.Tiles.{AreBetween, AreTiles, HasExtent, IsTakenOut, all_holes, all_shown, extent_len, hole_at, shown_by}
+use Rattle.extents.specs.Tiles.{AreTiles, HasExtent, IsTakenOut, all_holes, all_shown, extent_len, hole_at, shown_by}
 use Rattle.extents.proofs.Tiling.{Stands, holes-append, insert_there, length-shown, long, long-append, long-cons, lookup_there, shown-append, stands_behind, tiles-append}
 
 -- items in place of as many others

@@ -1,13 +1,12 @@
 -- Runs of extents at home.
-use Rattle.std.proofs.Common.{◌≡◌, ℕ, ◌+◌, ◌-◌, ◌<◌, ◌≤◌, List, [], ◌∷◌, ◌++◌, Option, Some, None, length, take, drop, map, get_or, sym, refl, ap, ◌∙◌, subst, ◌⊎◌, ⊎_elim, inl, inr, arith}
+use Rattle.std.proofs.Common.{◌≡◌, ℕ, ◌+◌, ◌-◌, ◌<◌, ◌≤◌, List, Option, Some, None, length, take, drop, map, get_or, sym, refl, ap, ◌∙◌, subst, ⊎_elim, arith}
 use Rattle.std.specs.Option.{IsSome}
 use Rattle.std.proofs.lemmas.Bool.{cases_lt}
 use Rattle.std.proofs.lemmas.List.{take_all}
 use Rattle.cp_base.specs.Buffer.{Buffer}
-use Rattle.cp_base.specs.Pieces.{piece}
 use Rattle.extents.specs.declared.tiles.Extent.{Extent}
-use Rattle.extents.specs.declared.tiles.Extent.TheVariants.{Home, Out}
-use Rattle.extents.specs.Tiles.{AreBetween, AreHomeBytes, AreTiles, HasExtent, IsBesideHome, IsEdge, IsHomeByte, IsRecut, IsRun, IsTakenOut, LiesAround, all_holes, all_shown, extent_len}
+use Rattle.extents.specs.declared.tiles.Extent.TheVariants.{Home}
+use Rattle.extents.specs.Tiles.{AreBetween, AreHomeBytes, AreTiles, HasExtent, IsEdge, IsHomeByte, IsRecut, IsRun}
 use Rattle.extents.proofs.Pieces.{piece_of}
 use Rattle.extents.proofs.Tiling.{Stands, buffer_byte, byte_of, edge_end, edge_here, long, stands, stands_fits}
 

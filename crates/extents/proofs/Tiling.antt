@@ -1,5 +1,5 @@
 -- Extents that lie one after the other: their parts, and what stands at a place.
-use Rattle.std.proofs.Common.{◌≡◌, ℕ, zero, suc, ◌+◌, ◌-◌, ◌<◌, ◌≤◌, Bool, true, false, cond, eqb, ltb, not, ◌||◌, ◌&&◌, List, [], ◌∷◌, ◌++◌, Option, Some, None, length, take, drop, map, replicate, get_or, sym, refl, ap, ◌∙◌, subst, ◌⊎◌, ⊎_elim, inl, inr, arith}
+use Rattle.std.proofs.Common.{◌≡◌, ℕ, ◌+◌, ◌-◌, ◌<◌, ◌≤◌, Bool, true, false, cond, List, [], ◌∷◌, ◌++◌, Option, Some, None, length, map, replicate, get_or, sym, refl, ap, ◌∙◌, subst, ◌⊎◌, ⊎_elim, inl, inr, arith}
 use Rattle.std.specs.BTreeMap.{BTreeMap, get, insert_entry, is_at}
 use Rattle.std.specs.BTreeMap.Range.{IsInRange}
 use Rattle.std.specs.Map.{lookup}
@@ -9,7 +9,7 @@ use Rattle.std.specs.Ordering.{is_gt, is_lt, nat_cmp}
 use Rattle.std.specs.declared.ops.Bound.TheVariants.{Included, Unbounded}
 use Rattle.std.proofs.lemmas.Bool.{cases_eq, cases_lt, eq-eqb, le-ltb, lt-ltb, ne_eqb}
 use Rattle.std.proofs.lemmas.Option.{slice_get-get_or}
-use Rattle.std.proofs.lemmas.List.{append-nil, append_assoc, get_or-append_right, get_or-map, get_or-replicate, get_or_append_left, get_or_past, length-append, length-map, length-replicate}
+use Rattle.std.proofs.lemmas.List.{append_assoc, get_or-append_right, get_or-map, get_or-replicate, get_or_append_left, get_or_past, length-append, length-map, length-replicate}
 use Rattle.extents.specs.declared.tiles.Extent.{Extent}
 use Rattle.extents.specs.declared.tiles.Extent.TheVariants.{Home, Out}
 use Rattle.cp_base.specs.Buffer.{Buffer}

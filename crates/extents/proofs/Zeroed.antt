@@ -1,12 +1,12 @@
 -- Extents of zeros.
-use Rattle.std.proofs.Common.{◌≡◌, ℕ, zero, suc, ◌+◌, ◌-◌, ◌<◌, ◌≤◌, List, [], ◌∷◌, ◌++◌, Option, Some, None, length, map, replicate, sym, refl, ap, ◌∙◌, subst, arith}
+use Rattle.std.proofs.Common.{◌≡◌, ℕ, zero, suc, ◌+◌, ◌<◌, List, [], ◌∷◌, ◌++◌, Option, Some, length, map, replicate, sym, refl, ap, ◌∙◌, subst, arith}
 use Rattle.std.specs.BTreeMap.{insert_entry}
 use Rattle.std.specs.Ordering.{nat_cmp}
 use Rattle.std.proofs.lemmas.List.{append-nil, length-replicate, replicate-append-replicate}
 use Rattle.cp_base.specs.Buffer.{Buffer}
 use Rattle.extents.specs.declared.tiles.Extent.{Extent}
-use Rattle.extents.specs.declared.tiles.Extent.TheVariants.{Home, Out}
-use Rattle.extents.specs.Tiles.{AreTiles, all_holes, all_shown, extent_len}
+use Rattle.extents.specs.declared.tiles.Extent.TheVariants.{Home}
+use Rattle.extents.specs.Tiles.{AreTiles, all_holes, all_shown}
 use Rattle.extents.proofs.Tiling.{holes-append, insert_last, long, shown-append, tiles-append}
 
 -- extents of so many zeros

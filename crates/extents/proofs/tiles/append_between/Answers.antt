@@ -1,11 +1,11 @@
 -- Each turn appends what the extent around the place has of the range.
-use Rattle.std.proofs.Common.{◌≡◌, ℕ, ◌+◌, ◌-◌, ◌<◌, ◌≤◌, ◌++◌, List, Some, None, take, drop, length, map, ap, ◌∙◌, sym, subst, arith}
+use Rattle.std.proofs.Common.{◌≡◌, ℕ, ◌+◌, ◌-◌, ◌≤◌, ◌++◌, List, take, drop, length, ap, ◌∙◌, arith}
 use Rattle.std.proofs.lemmas.Option.{MatchOption-at_some}
 use Rattle.std.proofs.lemmas.List.{length-drop, length-take-le}
 use Rattle.extents.specs.Tiles.{LiesAround, all_shown}
-use Rattle.extents.specs.declared.tiles.Extent.TheVariants.{Home, Out}
+use Rattle.extents.specs.declared.tiles.Extent.TheVariants.{Home}
 use Rattle.extents.proofs.Pieces.{piece_more, piece_of}
-use Rattle.extents.proofs.Tiling.{Stands, stands, stands_fits}
+use Rattle.extents.proofs.Tiling.{stands, stands_fits}
 use Rattle.extents.proofs.tiles.append_between.Goals as goal
 
 around : (c : goal.After-len) → LiesAround c.args.tiles.now.entries c.unwrap-start.result.0 (Home c.unwrap-start.result.1.now) c.loop-at.at

@@ -1,5 +1,5 @@
 -- The bytes up to the place are appended.
-use Rattle.std.proofs.Common.{◌-◌, ◌≡◌, ℕ, ◌+◌, ◌<◌, ◌≤◌, ◌++◌, map, Some}
+use Rattle.std.proofs.Common.{◌-◌, ◌≡◌, ◌+◌, ◌≤◌, ◌++◌, map, Some}
 use Rattle.cp_base.specs.Pieces.{piece}
 use Rattle.extents.specs.Tiles.{all_shown}
 use Rattle.extents.proofs.tiles.append_between.Given as goal

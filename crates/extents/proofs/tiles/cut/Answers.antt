@@ -1,11 +1,9 @@
 -- The extent around the place is cut in two.
-use Rattle.std.proofs.Common.{rules, ◌≡◌, ℕ, ◌+◌, ◌-◌, ◌<◌, ◌≤◌, List, OnOk, take, drop, length, ap, ◌∙◌, sym, subst, arith}
+use Rattle.std.proofs.Common.{◌≡◌, ◌-◌, OnOk, take, drop, ap, ◌∙◌, subst, arith}
 use Rattle.std.specs.BTreeMap.{insert_entry}
 use Rattle.std.specs.Ordering.{nat_cmp}
 use Rattle.std.proofs.lemmas.List.{take_rest}
-use Rattle.extents.specs.Tiles.{AreTiles, IsEdge}
-use Rattle.extents.specs.declared.tiles.Extent.{Extent}
-use Rattle.extents.specs.declared.tiles.Extent.TheVariants.{Home, Out}
+use Rattle.extents.specs.declared.tiles.Extent.TheVariants.{Home}
 use Rattle.extents.proofs.Cutting.{Cut, cut_edge, cut_edges, cut_same}
 use Rattle.extents.proofs.Tiling.{edge_here, edge_past, stands}
 use Rattle.extents.proofs.tiles.cut.Goals as goal

@@ -1,7 +1,6 @@
 -- The last extent that begins up to a place is the one around it.
-use Rattle.std.proofs.Common.{◌≡◌, ℕ, ◌+◌, ◌≤◌, None, Some, [], ◌∷◌, ◌++◌, List, Option, length, get_or, ap, ◌∙◌, sym, subst, arith}
-use Rattle.extents.specs.Tiles.{AreTiles, HasExtent, all_shown}
-use Rattle.extents.specs.declared.tiles.Extent.TheVariants.{Home, Out}
+use Rattle.std.proofs.Common.{◌≤◌, None, Some, List, get_or, ap, ◌∙◌, arith}
+use Rattle.extents.specs.Tiles.{all_shown}
 use Rattle.extents.proofs.Tiling.{behind_around, hole_around, none_around, up_to_bound}
 use Rattle.extents.proofs.tiles.home_around.Goals as goal
 

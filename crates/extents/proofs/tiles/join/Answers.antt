@@ -1,8 +1,7 @@
 -- The first extent takes the bytes of all, and the others are taken away.
-use Rattle.std.proofs.Common.{◌≡◌, ℕ, ◌+◌, OnOk, subst, ◌∙◌, ap}
+use Rattle.std.proofs.Common.{◌≡◌, OnOk, subst}
 use Rattle.std.specs.BTreeMap.{insert_entry}
 use Rattle.std.specs.Ordering.{nat_cmp}
-use Rattle.extents.specs.Tiles.{without_between}
 use Rattle.extents.specs.declared.tiles.Extent.TheVariants.{Home}
 use Rattle.extents.proofs.Joining.{Joined, joined_to_one, joins_there}
 use Rattle.extents.proofs.tiles.join.Goals as goal

@@ -1,5 +1,5 @@
 -- The hole is an extent as long as the bytes.
-use Rattle.std.proofs.Common.{◌≡◌, ℕ, List, OnOk, Some, length, map, refl, subst}
+use Rattle.std.proofs.Common.{◌≡◌, OnOk, length, refl, subst}
 use Rattle.std.specs.BTreeMap.{insert_entry}
 use Rattle.std.specs.Ordering.{nat_cmp}
 use Rattle.extents.specs.declared.tiles.Extent.TheVariants.{Home, Out}

@@ -1,5 +1,5 @@
 -- An extent that is taken away begins between the places.
-use Rattle.std.proofs.Common.{◌≡◌, ℕ, ◌<◌, ◌≤◌, length, sym, ◌∙◌, ap, arith}
+use Rattle.std.proofs.Common.{sym, ◌∙◌, ap}
 use Rattle.extents.specs.Tiles.{without_between}
 use Rattle.extents.proofs.Joining.{first_in_range, without_none, without_removed}
 use Rattle.extents.proofs.tiles.remove_between.Goals as goal

@@ -1,5 +1,5 @@
 -- What was taken away so far began between the places.
-use Rattle.std.proofs.Common.{◌≡◌, ℕ, length}
+use Rattle.std.proofs.Common.{◌≡◌, length}
 use Rattle.extents.specs.Tiles.{without_between}
 use Rattle.extents.proofs.tiles.remove_between.Given as goal
 

@@ -1,7 +1,7 @@
 -- Each turn adds an extent to the run.
-use Rattle.std.proofs.Common.{◌≡◌, ℕ, ◌+◌, ◌<◌, ◌≤◌, Some, length, sym, ap, ◌∙◌, subst, arith}
+use Rattle.std.proofs.Common.{◌≡◌, ◌+◌, Some, length, sym, ap, ◌∙◌, subst, arith}
 use Rattle.extents.specs.Tiles.{HasExtent, IsRun}
-use Rattle.extents.specs.declared.tiles.Extent.TheVariants.{Home, Out}
+use Rattle.extents.specs.declared.tiles.Extent.TheVariants.{Home}
 use Rattle.extents.proofs.Running.{reaches, run_more}
 use Rattle.extents.proofs.tiles.run_end.Goals as goal
 

@@ -1,7 +1,5 @@
 -- Each turn adds an extent to the run.
-use Rattle.std.proofs.Common.{◌≡◌, ℕ, ◌+◌, ◌<◌, ◌≤◌, Some, length, sym, ap, ◌∙◌, subst, arith}
-use Rattle.extents.specs.Tiles.{HasExtent, IsRun}
-use Rattle.extents.specs.declared.tiles.Extent.TheVariants.{Home, Out}
+use Rattle.std.proofs.Common.{arith}
 use Rattle.extents.proofs.Running.{reaches, run_less}
 use Rattle.extents.proofs.tiles.run_start.Goals as goal
 

@@ -1,14 +1,13 @@
 -- The extent is moved out.
-use Rattle.std.proofs.Common.{◌≡◌, ℕ, ◌-◌, List, OnOk, IfOk, Option, Some, length, map, refl, sym, ◌∙◌, ap, subst, arith}
+use Rattle.std.proofs.Common.{◌≡◌, ◌-◌, OnOk, IfOk, Some, length, sym, ◌∙◌, ap, subst, arith}
 use Rattle.std.specs.BTreeMap.{get, insert_entry}
 use Rattle.std.specs.Ordering.{nat_cmp}
 use Rattle.cp_base.specs.Buffer.{Buffer}
 use Rattle.extents.specs.Tiles.{HasExtent}
-use Rattle.extents.specs.declared.tiles.Extent.{Extent}
 use Rattle.extents.specs.declared.tiles.Extent.TheVariants.{Home, Out}
 use Rattle.extents.proofs.Replacing.{taken_out}
 use Rattle.extents.proofs.Running.{whole_between}
-use Rattle.extents.proofs.Tiling.{Stands, stands}
+use Rattle.extents.proofs.Tiling.{stands}
 use Rattle.extents.proofs.tiles.take_out.Goals as goal
 
 same_buffer : (a b : Buffer) → Home a ≡ Home b → a ≡ b

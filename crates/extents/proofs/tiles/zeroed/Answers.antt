@@ -1,5 +1,5 @@
 -- Each turn adds an extent behind the others.
-use Rattle.std.proofs.Common.{◌+◌, ◌≤◌, ◌<◌, arith}
+use Rattle.std.proofs.Common.{◌<◌, arith}
 use Rattle.extents.proofs.Zeroed.{more_zeros}
 use Rattle.extents.proofs.tiles.zeroed.Goals as goal
 

@@ -1,5 +1,5 @@
 -- What one namespace appends is what the range has.
-use Rattle.std.proofs.Common.{◌≡◌, ℕ, ◌+◌, ◌-◌, ◌<◌, ◌++◌, List, Option, Some, length, drop, map, sym, ap, ◌∙◌, arith}
+use Rattle.std.proofs.Common.{◌≡◌, ◌+◌, ◌-◌, length, drop, ap, ◌∙◌, arith}
 use Rattle.std.proofs.lemmas.Option.{MatchOption-at_some}
 use Rattle.cp_base.specs.Pieces.{piece}
 use Rattle.extents.specs.Homes.{AreBytesAt, SpaceHome, home_of}

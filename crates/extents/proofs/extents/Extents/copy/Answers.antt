@@ -1,5 +1,5 @@
 -- What one namespace gives is what the range has.
-use Rattle.std.proofs.Common.{◌≡◌, ℕ, ◌+◌, ◌-◌, ◌<◌, List, Some, map, sym, ap, ◌∙◌, arith}
+use Rattle.std.proofs.Common.{◌≡◌, ◌+◌, ◌-◌, ap, ◌∙◌, arith}
 use Rattle.std.proofs.lemmas.Option.{MatchOption-at_some}
 use Rattle.cp_base.specs.Pieces.{piece}
 use Rattle.extents.specs.Homes.{SpaceHome, home_of}

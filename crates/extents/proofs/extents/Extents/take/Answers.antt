@@ -1,6 +1,6 @@
 -- What one namespace gives is what the range has.
-use Rattle.std.proofs.Common.{◌≡◌, ℕ, ◌+◌, ◌-◌, ◌<◌, ◌≤◌, List, Some, length, map, sym, ap, ◌∙◌, subst, arith}
-use Rattle.extents.specs.Homes.{AreHere, IsSpaceTaken, home_of}
+use Rattle.std.proofs.Common.{◌+◌, sym, subst, arith}
+use Rattle.extents.specs.Homes.{AreHere, home_of}
 use Rattle.cp_base.specs.declared.region.SpaceId.{SpaceId}
 use Rattle.extents.proofs.Regions.{bytes_here, here_from, ok_then, taken_here, then_ok}
 use Rattle.extents.proofs.extents.Extents.take.Goals as goal

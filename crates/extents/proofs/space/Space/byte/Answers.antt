@@ -1,9 +1,6 @@
 -- The byte is that of the extent around the place.
-use Rattle.std.proofs.Common.{◌≡◌, ℕ, ◌+◌, ◌-◌, ◌<◌, Some, None, List, Option, length, get_or, slice_index_or, sym, ap, ◌∙◌, arith}
-use Rattle.std.proofs.lemmas.Option.{slice_get-get_or}
+use Rattle.std.proofs.Common.{None, get_or, sym, ap, ◌∙◌}
 use Rattle.extents.specs.Homes.{SpaceHome}
-use Rattle.extents.specs.Tiles.{LiesAround, all_shown}
-use Rattle.extents.specs.declared.tiles.Extent.TheVariants.{Home}
 use Rattle.extents.proofs.Tiling.{byte_at}
 use Rattle.extents.proofs.space.Space.byte.Goals as goal
 
