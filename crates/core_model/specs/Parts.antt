@@ -6,28 +6,14 @@ use Rattle.cp_base.specs.Sets.{RangeSet}
 use Rattle.cp_base.specs.declared.spans.Footprint.{Footprint}
 use Rattle.device_model.specs.State.{Slot, State}
 use Rattle.queue_pairs.specs.declared.command.Outstanding.{Outstanding as Waiting}
-
--- a command that waits to be picked: the place of its submit, and of an Abort the place of the submit that it names
-pub record WaitingSubmit : Type 0 where
-  pub sent : ℕ
-  pub names : Option ℕ
+pub use Rattle.core_model.specs.declared.places.ClaimPlaces.{ClaimPlaces}
+pub use Rattle.core_model.specs.declared.places.EntryPlaces.{EntryPlaces}
+pub use Rattle.core_model.specs.declared.places.WaitingSubmit.{WaitingSubmit}
 
 -- what an open claim touches and holds, kept under a key
 pub record KeptFootprint : Type 0 where
   pub key : ℕ
   pub footprint : Footprint
-
--- an open claim: its place in the trail, its party, the host of its command, and the place of the submit
-pub record ClaimPlaces : Type 0 where
-  pub claim : ℕ
-  pub party : ℕ
-  pub host : ℕ
-  pub sent : ℕ
-
--- an entry of the history: the place of its submit, and where its reply is posted
-pub record EntryPlaces : Type 0 where
-  pub sent : ℕ
-  pub posted : ℕ
 
 -- How many events there were, how many commands were submitted, and whether the device is at rest. The commands of all
 -- hosts that wait to be picked, in order of submission. For each host its outstanding commands and the ordinal of its next

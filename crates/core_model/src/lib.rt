@@ -8,6 +8,7 @@ mod examples;
 mod facts;
 mod moves;
 mod picking;
+mod places;
 mod queues;
 
 pub use bytes::{
@@ -24,4 +25,5 @@ pub use moves::{
     parts_move_at_rests, parts_move_at_submits, parts_move_at_takes,
 };
 pub use picking::{claims_by_parts, picking_by_parts};
+pub use places::{ClaimPlaces, EntryPlaces, WaitingSubmit};
 pub use queues::{queues_by_parts, stages_follow, withdrawn_commands_wait};

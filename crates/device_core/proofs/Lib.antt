@@ -1,0 +1,2 @@
+pub mod Restaged
+pub mod Stands
