@@ -1,2 +1,3 @@
 pub mod Restaged
 pub mod Stands
+pub mod Told

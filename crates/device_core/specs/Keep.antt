@@ -1,12 +1,13 @@
 -- How the core keeps the parts of its device. This project's own.
-use Rattle.std.specs.Prelude.{◌≡◌, ℕ, ◌+◌, ◌*◌, ◌≤◌, ◌==◌, Bool, false, if◌then◌else◌, List, [], Option, None, Some, length, slice_get, unwrap_or, vec_capacity}
+use Rattle.std.specs.Prelude.{◌≡◌, ℕ, ◌+◌, ◌*◌, ◌≤◌, ◌==◌, if◌then◌else◌, List, [], Option, None, Some, length, map, unwrap_or, vec_capacity}
 use Rattle.std.specs.List.{AllByRecursion}
 use Rattle.cp_base.specs.Configuration.{Configuration, numbered}
-use Rattle.cp_base.specs.Contents.{bytes_of}
 use Rattle.cp_base.specs.declared.limits.TheConstants.{MAX_COMMANDS, MAX_HOSTS}
 use Rattle.queue_pairs.specs.Outstanding.{CidsDiffer, QueuePair}
 use Rattle.queue_pairs.specs.declared.command.Outstanding.{Outstanding as Waiting}
-use Rattle.core_model.specs.Parts.{Parts}
+use Rattle.range_claims.specs.declared.claims.Claim.{Claim}
+use Rattle.extents.specs.Homes.{is_hole, known_at}
+use Rattle.core_model.specs.Parts.{KeptFootprint, Parts}
 use Rattle.core_model.specs.Ties.{StandFor}
 use Rattle.device_core.specs.Recorded.{trail_of}
 use Rattle.device_core.specs.declared.events.Event.{Event as KeptEvent}
@@ -25,7 +26,11 @@ queue_of queues host = commands_in (numbered queues host)
 abbrev pub next_of : List ℕ → ℕ → ℕ
 next_of ordinals host = unwrap_or (numbered ordinals host) 1
 
--- what is kept, as the parts of a device after so many events. Nothing is claimed yet, and each byte is at home.
+-- a kept claim, as the parts of a device have it
+abbrev pub as_kept_footprint : Claim → KeptFootprint
+as_kept_footprint claim = record { key = claim.key; footprint = claim.footprint }
+
+-- what is kept, as the parts of a device after so many events
 abbrev pub parts_of : ℕ → Keep → Parts
 parts_of count k = record {
   count = count;
@@ -34,10 +39,10 @@ parts_of count k = record {
   waiting = k.waiting.items;
   queues = λ host. queue_of k.queues.items host;
   ordinals = λ host. next_of k.ordinals.items host;
-  kept = [];
-  claims = [];
-  store = λ space offset. slice_get (bytes_of k.bytes space) offset;
-  out = λ region. false;
+  kept = map as_kept_footprint k.kept.kept;
+  claims = k.claims.items;
+  store = λ space offset. known_at k.store space offset;
+  out = λ region. is_hole k.store region;
   slots = k.slots;
   sets = k.sets;
   entries = k.entries.items;
@@ -65,6 +70,8 @@ pub record AreQueues (depth : ℕ) (queues : List QueuePair) : Type 0 where
 pub record HasRoom (depth commands : ℕ) (k : Keep) : Type 0 where
   pub waiting : commands ≤ vec_capacity k.waiting
   pub entries : commands ≤ vec_capacity k.entries
+  pub kept : k.kept.most ≡ 2 * MAX_HOSTS
+  pub claims : 2 * MAX_HOSTS ≤ vec_capacity k.claims
   pub queues : AreQueues depth k.queues.items
   pub ordinals : length k.ordinals.items ≡ MAX_HOSTS
 

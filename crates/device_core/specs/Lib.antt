@@ -1,2 +1,4 @@
+pub mod AtOnce
 pub mod Keep
+pub mod Reading
 pub mod Recorded

@@ -1,16 +1,16 @@
 // The core itself.
-ghost use Rattle.std.specs.Prelude.{◌≡◌, ◌≤◌, [], None, Ok, Some, length, if◌then◌else◌, IfErr, IfOk, OnErr, OnOk, MatchResult, slice_get};
+ghost use Rattle.std.specs.Prelude.{◌≡◌, ◌≤◌, [], None, Ok, Some, length, if◌then◌else◌, IfErr, IfOk, OnErr, OnOk, MatchResult, option_copied, option_map, slice_get};
 ghost use Rattle.std.specs.Arc.{arc_value};
 ghost use Rattle.cp_base.specs.declared.limits.TheConstants.{MAX_COMMANDS, MAX_HOSTS};
-ghost use Rattle.trail_model.specs.Lawful.{IsLawful, IsParty, world_of};
-ghost use Rattle.trail_model.specs.World.{ordinal_after};
+ghost use Rattle.trail_model.specs.Lawful.{IsLawful, IsParty, history_of, world_of};
+ghost use Rattle.trail_model.specs.World.{home, ordinal_after};
 ghost use Rattle.trail_model.specs.declared.events.Event.TheVariants as event;
 ghost use Rattle.core_model.specs.Causes.{submit_cause, take_answer};
-ghost use Rattle.device_core.specs.Recorded.{Appends, with_event};
+ghost use Rattle.device_core.specs.Recorded.{Appends, told_event, with_event};
 
 use crate::Event;
 use crate::keep::Keep;
-use cp_base::{Command, Config, NoMemory};
+use cp_base::{Command, Config, NoMemory, SpaceId};
 use queue_pairs::{SendCause, TakeCause};
 use std::alloc::Global;
 use std::marker::Model;
@@ -134,5 +134,26 @@ impl Core {
         }
         self.keep.put_to_rest();
         self.trail.push_reserved(Event::Rest { by });
+    }
+
+    /// The byte at a place of a namespace. `None` where it is out for an open claim, and where the place is outside.
+    pub fn byte(&self, space: SpaceId, at: u64) -> Option<u8>
+        ensures { result ≡ home self.now.config (world_of self.now.config self.now.trail) space at }
+    {
+        self.keep.store.byte(space, at)
+    }
+
+    /// How many commands are over: so many entries the history has.
+    pub fn ended(&self) -> u32
+        ensures { result ≡ length (history_of self.now.config self.now.trail) }
+    {
+        self.keep.entries.len() as u32
+    }
+
+    /// The event at a place of the trail. `None` where the trail does not go so far.
+    pub fn event(&self, place: u32) -> Option<&Event>
+        ensures { option_map told_event (option_copied result) ≡ slice_get self.now.trail place }
+    {
+        self.trail.get(place as usize)
     }
 }

@@ -9,17 +9,18 @@ ghost use Rattle.core_model.specs.Ties.{AreFirst};
 ghost use Rattle.device_core.specs.Keep.{AreQueues, HasRoom, KeepsRoom, next_of, pair_of, parts_of, queue_of};
 
 use crate::queues::{empty_queues, send_to, sent_under, take_from};
-use core_model::{EntryPlaces, WaitingSubmit};
+use core_model::{ClaimPlaces, EntryPlaces, WaitingSubmit};
 use cp_base::{Command, Config, MAX_HOSTS, NoMemory};
+use extents::Extents;
 use program_slots::Slots;
 use queue_pairs::{Queue, SendCause, TakeCause};
+use range_claims::Claims;
 use range_sets::Sets;
-use slm_bytes::Flat;
 use std::alloc::Global;
 
 /// How many commands were submitted, and whether the device is at rest. The commands of all hosts that wait, in
-/// order of submission. The queues and the ordinals of the next commands, those of host `h` at index `h - 1`. The
-/// bytes, the slots and the sets. The entries of the history, in order.
+/// order of submission. The queues and the ordinals of the next commands, those of host `h` at index `h - 1`. What
+/// open claims touch, and the open claims. The bytes at home, the slots and the sets. The entries of the history.
 #[derive(Debug, Drop)]
 pub(crate) struct Keep {
     pub(crate) submitted: u32,
@@ -27,7 +28,9 @@ pub(crate) struct Keep {
     pub(crate) waiting: Vec<WaitingSubmit>,
     pub(crate) queues: Vec<Queue>,
     pub(crate) ordinals: Vec<u32>,
-    pub(crate) bytes: Flat,
+    pub(crate) kept: Claims,
+    pub(crate) claims: Vec<ClaimPlaces>,
+    pub(crate) store: Extents,
     pub(crate) slots: Slots,
     pub(crate) sets: Sets,
     pub(crate) entries: Vec<EntryPlaces>,
@@ -78,7 +81,9 @@ impl Keep {
         let entries = Vec::with_capacity(alloc, commands as usize)?;
         let queues = empty_queues(alloc, config.depth())?;
         let ordinals = first_ordinals(alloc)?;
-        let bytes = Flat::new(alloc, config)?;
+        let kept = Claims::new(alloc, 2 * MAX_HOSTS)?;
+        let claims = Vec::with_capacity(alloc, 2 * MAX_HOSTS as usize)?;
+        let store = Extents::new(alloc, config)?;
         let slots = Slots::new(alloc)?;
         let sets = Sets::new(alloc)?;
         Ok(Keep {
@@ -87,7 +92,9 @@ impl Keep {
             waiting,
             queues,
             ordinals,
-            bytes,
+            kept,
+            claims,
+            store,
             slots,
             sets,
             entries,

@@ -1,0 +1,143 @@
+// Commands done at once.
+ghost use Rattle.std.specs.Prelude.{◌≡◌, ◌+◌, ◌<◌, ◌≤◌, ℕ, Option, Some, is_some, if◌then◌else◌, IsTrue, length, vec_capacity, vec_len};
+ghost use Rattle.cp_base.specs.Answer.{answer_of};
+ghost use Rattle.device_model.specs.Execution.{tells};
+ghost use Rattle.device_model.specs.Memory.{moves_bytes};
+ghost use Rattle.trail_model.specs.World.{is_no_memory};
+ghost use Rattle.device_core.specs.AtOnce.{IsDoneAtOnce, changes_tables};
+ghost use Rattle.cp_base.specs.declared.limits.TheConstants.{MAX_HOSTS};
+ghost use Rattle.queue_pairs.specs.Outstanding.{under};
+ghost use Rattle.queue_pairs.specs.Places.{PlacesDiffer};
+ghost use Rattle.core_model.specs.Moves.{PostMoves, without_waiting};
+ghost use Rattle.core_model.specs.Parts.{tables_of};
+ghost use Rattle.core_model.specs.Picking.{is_waiting, withdrawn_waiting};
+ghost use Rattle.device_core.specs.Keep.{KeepsRoom, parts_of, queue_of};
+
+use crate::checks::check_moving;
+use crate::keep::Keep;
+use crate::queues::post_in;
+use crate::tables::{change_tables, only, told};
+use core_model::{EntryPlaces, WaitingSubmit};
+use cp_base::{Command, Config, Reply, Status};
+use program_slots::Slots;
+use queue_pairs::Stage;
+use range_sets::Sets;
+use std::alloc::Global;
+
+// Whether a submit waits.
+fn is_waiting(waiting: &[WaitingSubmit], sent: u32) -> bool
+    ensures { result ≡ is_waiting waiting.now sent }
+{
+    waiting.iter().any(|x| x.sent == sent)
+}
+
+// The place that a command withdraws which names this: the named one, where it still waits.
+fn withdrawn(waiting: &[WaitingSubmit], names: Option<u32>) -> Option<u32>
+    ensures { result ≡ withdrawn_waiting waiting.now names }
+{
+    let place = names?;
+    if is_waiting(waiting, place) {
+        return Some(place);
+    }
+    None
+}
+
+// Those that wait, without the one of a submit.
+fn leave_out(waiting: &mut Vec<WaitingSubmit>, sent: u32)
+    ensures left { waiting.new.items ≡ without_waiting waiting.old.items sent }
+    ensures capacity { vec_capacity waiting.new ≡ vec_capacity waiting.old }
+{
+    waiting.retain(|x| x.sent != sent);
+}
+
+// What an Abort is told that withdraws this.
+fn tell_abort(alloc: Global, aborts: Option<u32>) -> Reply
+    ensures { answer_of result ≡ tells Status.Ok (if is_some aborts then 0 else 1) }
+{
+    let number = if aborts.is_some() { 0 } else { 1 };
+    told(alloc, Status::Ok, number)
+}
+
+// Refuses a command that moves bytes, or tells it that there is no memory.
+fn tell_moving(
+    alloc: Global,
+    config: &Config,
+    slots: &Slots,
+    sets: &Sets,
+    command: &Command,
+) -> Reply
+    requires { IsTrue (moves_bytes command.now) }
+    ensures { let s = tables_of slots.now sets.now in (aborts : Option ℕ)
+        → IsDoneAtOnce (is_no_memory result.status) config.now s command.now aborts (answer_of result) s }
+{
+    match check_moving(alloc, config, slots, sets, command) {
+        Ok(()) => only(alloc, Status::NoMemory),
+        Err(status) => only(alloc, status),
+    }
+}
+
+// Carries out or refuses a command that changes tables.
+fn tell_tables(
+    alloc: Global,
+    config: &Config,
+    slots: &mut Slots,
+    sets: &mut Sets,
+    command: &Command,
+) -> Reply
+    requires { IsTrue (changes_tables command.now) }
+    ensures { (aborts : Option ℕ) → IsDoneAtOnce (is_no_memory result.status) config.now
+        (tables_of slots.old sets.old) command.now aborts (answer_of result) (tables_of slots.new sets.new) }
+{
+    change_tables(alloc, config, slots, sets, command)
+}
+
+// Does a command at once, of which an Abort withdraws this. A command that moves bytes and is not refused is told
+// that there is no memory.
+fn tell(
+    alloc: Global,
+    config: &Config,
+    slots: &mut Slots,
+    sets: &mut Sets,
+    command: &Command,
+    aborts: Option<u32>,
+) -> Reply
+    ensures { IsDoneAtOnce (is_no_memory result.status) config.now (tables_of slots.old sets.old) command.now aborts
+        (answer_of result) (tables_of slots.new sets.new) }
+{
+    match command {
+        Command::Abort { .. } => tell_abort(alloc, aborts),
+        Command::SetCreate { .. }
+        | Command::SetDelete { .. }
+        | Command::Load { .. }
+        | Command::Unload { .. }
+        | Command::Activate { .. }
+        | Command::Deactivate { .. } => tell_tables(alloc, config, slots, sets, command),
+        Command::NvmRead { .. }
+        | Command::NvmWrite { .. }
+        | Command::NvmZeroes { .. }
+        | Command::NvmCopy { .. }
+        | Command::MemRead { .. }
+        | Command::MemWrite { .. }
+        | Command::MemFill { .. }
+        | Command::MemCopy { .. }
+        | Command::Execute { .. } => tell_moving(alloc, config, slots, sets, command),
+    }
+}
+
+impl Keep {
+    /// Posts the reply to a command that waits, at a place of the trail.
+    fn post(&mut self, host: u32, cid: u32, sent: u32, posted: u32)
+        requires host { (1 ≤ host) × (host ≤ length self.old.queues.items) }
+        requires waits { under (queue_of self.old.queues.items host) cid
+            ≡ Some (record { cid = cid; sent = sent; stage = Stage.Queued }) }
+        requires room { vec_len self.old.entries < vec_capacity self.old.entries }
+        ensures moves { (count : ℕ) → PlacesDiffer (queue_of self.old.queues.items host)
+            → PostMoves (parts_of count self.old) (parts_of (posted + 1) self.new) host sent posted
+            (tables_of self.old.slots self.old.sets) }
+        ensures room { KeepsRoom self.old self.new }
+    {
+        leave_out(&mut self.waiting, sent);
+        post_in(&mut self.queues, host, cid, sent, posted);
+        self.entries.push_reserved(EntryPlaces { sent, posted });
+    }
+}
