@@ -8,7 +8,7 @@ use Rattle.cp_base.specs.Configuration.{Configuration}
 use Rattle.cp_base.specs.Known.{Known}
 use Rattle.cp_base.specs.Region.{Region}
 use Rattle.cp_base.specs.Sets.{RangeSet}
-use Rattle.cp_base.specs.Sharing.{any_overlap, meets_any, range_region, shares_byte}
+use Rattle.cp_base.specs.Sharing.{any_overlap, meets_any, range_region, same_region, shares_byte}
 use Rattle.cp_base.specs.declared.commands.Command.{Command}
 use Rattle.cp_base.specs.declared.commands.Command.TheVariants as command
 use Rattle.cp_base.specs.declared.lists.MemRange.{MemRange}
@@ -32,7 +32,7 @@ use Rattle.core_model.specs.Moves.{filled_by, filled_by_all}
 use Rattle.core_model.specs.Parts.{Parts}
 use Rattle.core_model.specs.Picking.{taken_for}
 use Rattle.core_model.proofs.Claiming.{same-taken}
-use Rattle.core_model.specs.Ties.{StandFor, is_one_of, is_that_region}
+use Rattle.core_model.specs.Ties.{StandFor, is_one_of}
 
 -- ---- sets
 
@@ -81,7 +81,7 @@ taken-apart c commands p trail cmd stand = refl
 
 -- ---- what is out
 
-same-itself : (r : Region) → is_that_region r r ≡ true
+same-itself : (r : Region) → same_region r r ≡ true
 same-itself r =
     ap (λ (b : Bool). b && ((r.start == r.start) && (r.len == r.len))) (same_space-itself r.space r.space refl)
     ∙ (ap (λ (b : Bool). b && (r.len == r.len)) (same-eqb r.start r.start refl) ∙ same-eqb r.len r.len refl)
@@ -95,7 +95,7 @@ each-one : (all rs : List Region) → ((r : Region) → is_one_of rs r ≡ true 
 each-one all [] within = tt
 each-one all (r ∷ rs) within = (
   within r (ap (λ (b : Bool). b || is_one_of rs r) (same-itself r)),
-  each-one all rs (λ x e. within x (or-right (is_that_region r x) (is_one_of rs x) e)),
+  each-one all rs (λ x e. within x (or-right (same_region r x) (is_one_of rs x) e)),
 )
 
 found-any : (test : OpenClaim → Bool) (place : ℕ) (claims : List OpenClaim) (claim : OpenClaim) → claim_at claims place ≡ Some claim → test claim ≡ true → list_any test claims ≡ true

@@ -7,7 +7,7 @@ use Rattle.cp_base.specs.Configuration.{Configuration}
 use Rattle.cp_base.specs.Contents.{Contents, bytes_of}
 use Rattle.cp_base.specs.Region.{Region}
 use Rattle.cp_base.specs.Runs.{runs_of}
-use Rattle.cp_base.specs.Sharing.{IsIn, same_space}
+use Rattle.cp_base.specs.Sharing.{IsIn, same_region, same_space}
 use Rattle.cp_base.specs.declared.commands.Command.{Command}
 use Rattle.cp_base.specs.declared.commands.Command.TheVariants as command
 use Rattle.cp_base.specs.declared.lists.MemRange.{MemRange}
@@ -30,7 +30,7 @@ use Rattle.trail_model.proofs.Putting.{AreFrom, AreWhole, only_memory, put_piece
 use Rattle.trail_model.proofs.Regions.{AreClear, IsInSome, clear, clear-swap, has_byte-some, in-cases, in-has_byte, in-runs, out-has_byte, runs-in, same_space-true, some-has_byte}
 use Rattle.trail_model.proofs.Sound.{home-length, home-outside}
 use Rattle.trail_model.proofs.Submits.{each-weaker, eqb-same, none-some, some-same, without-related}
-use Rattle.core_model.specs.Ties.{is_lent, is_one_of, is_that_region}
+use Rattle.core_model.specs.Ties.{is_lent, is_one_of}
 
 -- ---- lists of bytes
 
@@ -207,9 +207,9 @@ module _ (c : Configuration) (state : State) (claims : List OpenClaim) (claim : 
 
 one-of-in : (rs : List Region) (r : Region) → 0 < r.len → is_one_of rs r ≡ true → IsInSome rs r.space r.start
 one-of-in [] r some e = absurd (true≢false (sym e))
-one-of-in (x ∷ rs) r some e = by_test (is_that_region x r) refl e (one-of-in rs r some)
+one-of-in (x ∷ rs) r some e = by_test (same_region x r) refl e (one-of-in rs r some)
   where
-    by_test : (b : Bool) → is_that_region x r ≡ b → (b || is_one_of rs r) ≡ true → (is_one_of rs r ≡ true → IsInSome rs r.space r.start)
+    by_test : (b : Bool) → same_region x r ≡ b → (b || is_one_of rs r) ≡ true → (is_one_of rs r ≡ true → IsInSome rs r.space r.start)
         → IsIn x r.space r.start ⊎ IsInSome rs r.space r.start
     by_test true h e later =
         let p = both-true (same_space x.space r.space) ((x.start == r.start) && (x.len == r.len)) h in

@@ -4,7 +4,7 @@ use Rattle.cp_base.specs.Configuration.{Configuration}
 use Rattle.cp_base.specs.Contents.{all_zero, bytes_of}
 use Rattle.std.specs.List.{list_any}
 use Rattle.cp_base.specs.Region.{Region}
-use Rattle.cp_base.specs.Sharing.{same_space}
+use Rattle.cp_base.specs.Sharing.{same_region}
 use Rattle.cp_base.specs.declared.limits.TheConstants.{SLOTS}
 use Rattle.cp_base.specs.declared.region.SpaceId.{SpaceId}
 use Rattle.device_model.specs.State.{Empty}
@@ -49,13 +49,9 @@ as_kept c claim = record { key = claim.place; footprint = claimed_footprint c cl
 abbrev pub as_places : OpenClaim → ClaimPlaces
 as_places claim = record { claim = claim.place; party = claim.party; host = claim.request.host; sent = claim.request.place }
 
--- whether two regions are the same
-abbrev pub is_that_region : Region → Region → Bool
-is_that_region a b = same_space a.space b.space && ((a.start == b.start) && (a.len == b.len))
-
 -- whether a region is one of these
 abbrev pub is_one_of : List Region → Region → Bool
-is_one_of regions region = list_any (λ (r : Region). is_that_region r region) regions
+is_one_of regions region = list_any (λ (r : Region). same_region r region) regions
 
 -- whether a region is one that was taken out for an open claim, which may write it
 abbrev pub is_lent : Configuration → List OpenClaim → Region → Bool

@@ -33,6 +33,10 @@ same_space (space.Mem m) (space.Mem n) = m == n
 same_space (space.Nvm m) (space.Mem n) = false
 same_space (space.Mem m) (space.Nvm n) = false
 
+-- whether two regions are the same
+abbrev pub same_region : Region → Region → Bool
+same_region a b = same_space a.space b.space && ((a.start == b.start) && (a.len == b.len))
+
 -- whether two regions have a byte in common
 abbrev pub shares_byte : Region → Region → Bool
 shares_byte a b =

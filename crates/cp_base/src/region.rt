@@ -103,6 +103,7 @@ impl ByteRange {
     /// The place after the last byte.
     pub fn end(&self) -> u64
         ensures value { result ≡ self.now.start + self.now.len }
+        ensures behind { self.now.start < result }
         ensures bounded { result ≤ MAX_NAMESPACE }
     {
         self.start + self.len

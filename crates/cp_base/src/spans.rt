@@ -67,6 +67,14 @@ impl Spans {
         Some(Spans { runs })
     }
 
+    /// How many runs: no more than 20.
+    pub fn count(&self) -> usize
+        ensures value { result ≡ length self.now }
+        ensures few { result ≤ MAX_RUNS }
+    {
+        self.runs.len()
+    }
+
     /// The runs in order.
     pub fn as_slice(&self) -> &[ByteRange]
         ensures { result.now ≡ self.now }

@@ -4,7 +4,7 @@ use Rattle.std.specs.List.{list_any}
 use Rattle.cp_base.specs.Configuration.{numbered}
 use Rattle.cp_base.specs.Pieces.{patched}
 use Rattle.cp_base.specs.Region.{Region}
-use Rattle.cp_base.specs.Sharing.{IsIn, same_space}
+use Rattle.cp_base.specs.Sharing.{IsIn, same_region}
 use Rattle.cp_base.specs.declared.region.SpaceId.{SpaceId}
 use Rattle.cp_base.specs.declared.region.SpaceId.TheVariants.{Nvm, Mem}
 
@@ -42,10 +42,6 @@ has_hole holes start len = list_any (λ (hole : ℕ × ℕ). same_hole hole.0 ho
 -- whether a region is one of those that are out
 abbrev pub is_hole : Homes → Region → Bool
 is_hole homes region = has_hole (home_of homes region.space).holes region.start region.len
-
--- whether two regions are the same
-abbrev pub same_region : Region → Region → Bool
-same_region a b = same_space a.space b.space && same_hole a.start a.len b.start b.len
 
 -- the bytes of a namespace between two places became a hole
 pub record IsSpaceTaken (old new : SpaceHome) (from to : ℕ) : Type 0 where

@@ -1,1 +1,15 @@
+pub mod Basics
+pub mod Betweens
+pub mod Bounds
+pub mod Changed
+pub mod Cuts
+pub mod Joins
+pub mod Keeping
 pub mod Keys
+pub mod Lowers
+pub mod Meets
+pub mod Raises
+pub mod Sharings
+pub mod Splits
+pub mod Totals
+pub mod Walks

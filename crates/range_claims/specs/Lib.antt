@@ -1,1 +1,5 @@
+pub mod Changes
+pub mod Counts
 pub mod Kept
+pub mod Places
+pub mod Segments

@@ -1,14 +1,18 @@
 // The claims that are kept.
-ghost use Rattle.std.specs.Prelude.{◌≡◌, ◌==◌, ◌<◌, [], ◌∷◌, ◌++◌, Some, IsTrue, IfOk, length, not, position};
+ghost use Rattle.std.specs.Prelude.{◌≡◌, ◌==◌, ◌<◌, ◌≤◌, [], ◌∷◌, ◌++◌, Some, IsTrue, IfOk, length, not, position};
 ghost use Rattle.std.specs.List.{list_any};
 ghost use Rattle.std.specs.Vec.{vec_capacity};
 ghost use Rattle.cp_base.specs.Touching.{meets};
 ghost use Rattle.range_claims.specs.Kept.{footprint_under, is_held, is_kept, without_key};
 
-use crate::meeting::meets;
+use crate::runs::{add_runs, counts_any, remove_runs};
+use crate::segments::Segments;
 use cp_base::{Footprint, NoMemory};
 use std::alloc::Global;
 use std::marker::Model;
+
+// The room for the segments of one claim: two for each of its ranges, and as much again for those that are cut.
+const SEGMENTS_A_CLAIM: usize = 80;
 
 /// A command that is carried out: its key, by which its claim is found again, and what it touches and holds.
 #[derive(Debug, Drop)]
@@ -23,18 +27,20 @@ pub struct Claim {
 pub struct Claims {
     most: u32,
     kept: Vec<Claim>,
+    writes: Segments,
+    reads: Segments,
 }
 
 impl Model for Claims {
-    ghost use Rattle.std.specs.Prelude.{◌≤◌, length};
+    ghost use Rattle.std.specs.Prelude.{◌≤◌};
     ghost use Rattle.std.specs.Vec.{vec_capacity};
-    ghost use Rattle.range_claims.specs.Kept.{KeptClaims};
+    ghost use Rattle.range_claims.specs.Kept.{AreCountedBy, KeptClaims};
 
     ghost Value = { KeptClaims };
 
     ghost view = { λ c. record { most = c.most; kept = c.kept.items } };
 
-    ghost invariant = { λ c. c.most ≤ vec_capacity c.kept };
+    ghost invariant = { λ c. (c.most ≤ vec_capacity c.kept) × AreCountedBy c.most c.kept.items c.writes c.reads };
 }
 
 // Whether a number is there and is this one.
@@ -54,6 +60,15 @@ fn place_of(kept: &[Claim], key: u32) -> Option<usize>
     kept.iter().position(|claim| claim.key == key)
 }
 
+// Puts a claim behind the others, which have room for it.
+fn put_behind(kept: &mut Vec<Claim>, claim: Claim)
+    requires { length kept.old.items < vec_capacity kept.old }
+    ensures items { kept.new.items ≡ kept.old.items ++ claim ∷ [] }
+    ensures capacity { vec_capacity kept.old ≤ vec_capacity kept.new }
+{
+    kept.push(claim).unwrap();
+}
+
 // Takes the first claim of a key out.
 fn take_out(kept: &mut Vec<Claim>, key: u32) -> Footprint
     requires { IsTrue (is_kept kept.old.items key) }
@@ -65,20 +80,21 @@ fn take_out(kept: &mut Vec<Claim>, key: u32) -> Footprint
     kept.remove(place).footprint
 }
 
-// Whether what a command touches meets one of these claims.
-fn any_meets(kept: &[Claim], footprint: &Footprint) -> bool
-    ensures { result ≡ list_any (λ claim. meets footprint.now claim.footprint) kept.now }
-{
-    kept.iter().any(|claim| meets(footprint, &claim.footprint))
-}
-
 impl Claims {
     /// No claim yet, with the room for so many of them.
     pub fn new(alloc: Global, most: u32) -> Result<Claims, NoMemory>
         ensures { IfOk result (λ claims. claims ≡ record { most = most; kept = [] }) }
     {
         let kept = Vec::with_capacity(alloc, most as usize)?;
-        Ok(Claims { most, kept })
+        let room = SEGMENTS_A_CLAIM * most as usize + 1;
+        let writes = Segments::new(alloc, room)?;
+        let reads = Segments::new(alloc, room)?;
+        Ok(Claims {
+            most,
+            kept,
+            writes,
+            reads,
+        })
     }
 
     /// Whether what a command touches meets nothing that is kept: no byte that one of both may write is touched by
@@ -86,7 +102,9 @@ impl Claims {
     pub fn free(&self, footprint: &Footprint) -> bool
         ensures { result ≡ not (list_any (λ claim. meets footprint.now claim.footprint) self.now.kept) }
     {
-        !any_meets(self.kept.as_slice(), footprint)
+        !(counts_any(&self.writes, &footprint.writes)
+            || counts_any(&self.reads, &footprint.writes)
+            || counts_any(&self.writes, &footprint.reads))
     }
 
     /// Whether a kept claim holds a slot.
@@ -115,7 +133,9 @@ impl Claims {
           kept = self.old.kept ++ record { key = key; footprint = footprint } ∷ [];
         } }
     {
-        self.kept.push(Claim { key, footprint }).unwrap();
+        add_runs(&mut self.writes, &footprint.writes);
+        add_runs(&mut self.reads, &footprint.reads);
+        put_behind(&mut self.kept, Claim { key, footprint });
     }
 
     /// Gives the first kept claim of a key back. It takes no memory.
@@ -124,6 +144,9 @@ impl Claims {
         ensures footprint { footprint_under self.old.kept key ≡ Some result }
         ensures kept { self.new ≡ record { most = self.old.most; kept = without_key key self.old.kept } }
     {
-        take_out(&mut self.kept, key)
+        let footprint = take_out(&mut self.kept, key);
+        remove_runs(&mut self.writes, &footprint.writes);
+        remove_runs(&mut self.reads, &footprint.reads);
+        footprint
     }
 }

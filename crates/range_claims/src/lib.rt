@@ -1,8 +1,10 @@
-//! The footprints of the commands that are carried out, and whether another command may begin beside them.
+//! The footprints of the commands that are carried out, and whether another one may begin beside them.
 #![tactic(auto)]
 
 mod claims;
-mod meeting;
+mod places;
+mod runs;
+mod segments;
 #[cfg(test)]
 mod tests;
 

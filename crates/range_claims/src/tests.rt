@@ -64,6 +64,7 @@ fn readers_share_and_writers_do_not(rt: HostRuntime) {
         (20, 0, [true, false, false]),
         (0, 20, [false, false, false]),
         (12, 20, [false, false, false]),
+        (16, 16, [false, false, false]),
         (0, 0, [true, true, true]),
     ] {
         let found = beside(rt.alloc(), reads, writes);
@@ -101,4 +102,54 @@ fn slots_and_sets_are_held(rt: HostRuntime) {
     let found = held(rt.alloc());
     let (while_kept, behind) = ([true, false, true, false], [false, false, false, false]);
     assert_eq!(rt; found, Some((while_kept, behind)));
+}
+
+// A command that writes some bytes of memory namespace 1, from a place on.
+fn writer(alloc: Global, start: u64, len: u64) -> Option<Footprint> {
+    let range = ByteRange::new(SpaceId::Mem(1), start, len)?;
+    Some(Footprint {
+        reads: Spans::of(alloc, &[])?,
+        writes: Spans::of(alloc, &[range])?,
+        slot: None,
+        set: None,
+    })
+}
+
+// Which of these commands may begin.
+fn free_now(claims: &Claims, asked: &[Footprint; 3]) -> [bool; 3] {
+    [
+        claims.free(&asked[0]),
+        claims.free(&asked[1]),
+        claims.free(&asked[2]),
+    ]
+}
+
+// Which of three writers that touch one another may begin again while the first alone is gone, while the last is gone
+// too, and while none is kept: the claims go in another order than they came.
+fn out_of_order(alloc: Global) -> Option<[[bool; 3]; 3]> {
+    let mut claims = Claims::new(alloc, 3).ok()?;
+    claims.add(1, writer(alloc, 0, 4)?);
+    claims.add(2, writer(alloc, 4, 4)?);
+    claims.add(3, writer(alloc, 8, 4)?);
+    let asked = [
+        writer(alloc, 0, 4)?,
+        writer(alloc, 4, 4)?,
+        writer(alloc, 8, 4)?,
+    ];
+    let _first = claims.remove(1);
+    let first_gone = free_now(&claims, &asked);
+    let _last = claims.remove(3);
+    let last_gone = free_now(&claims, &asked);
+    let _second = claims.remove(2);
+    Some([first_gone, last_gone, free_now(&claims, &asked)])
+}
+
+#[test]
+fn claims_go_in_any_order(rt: HostRuntime) {
+    let wanted = [
+        [true, false, false],
+        [true, false, true],
+        [true, true, true],
+    ];
+    assert_eq!(rt; out_of_order(rt.alloc()), Some(wanted));
 }
