@@ -1,6 +1,6 @@
 #!/usr/bin/env python3
-"""What the merge gate does not see: the program as it is called, the examples, the blocks of the documents and the page
-of definitions. `./check` calls it behind the gate.
+"""What the merge gate does not see: the program as it is called, the examples, inputs at their limits and such as mean no
+good, the blocks of the documents and the page of definitions. `./check` calls it behind the gate.
 
     python3 tools/check.py
 """
@@ -11,6 +11,7 @@ import sys
 from pathlib import Path
 
 from crates import TOP
+from hostile import check_hostile
 
 PROGRAM = "./nvmecp"
 # More than the largest input, whose limit the documents state.
@@ -123,6 +124,7 @@ def main():
     checks = Checks()
     check_examples(checks)
     check_statuses(checks)
+    check_hostile(checks.note)
     for page in [*sorted(TOP.glob("*.md")), *sorted((TOP / "docs").glob("*.md"))]:
         check_blocks(checks, page)
         check_links(checks, page)

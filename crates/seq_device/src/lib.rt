@@ -6,6 +6,7 @@ mod builtins;
 mod copies;
 mod device;
 mod execution;
+mod laws;
 mod loaded;
 mod memory;
 mod replies;
@@ -15,3 +16,4 @@ mod slots;
 mod tests;
 
 pub use device::SeqDevice;
+pub use laws::steps_are_confined;

@@ -1,0 +1,313 @@
+#!/usr/bin/env python3
+"""Inputs at their limits and inputs that mean no good, as the program meets them: scripts as large as they may be, each
+limit at its value and one past it, scripts that are cut or changed at each of their bytes, programs of random code, and an
+output that nobody reads. `./check` calls it.
+
+    python3 tools/hostile.py
+"""
+
+import random
+import re
+import subprocess
+import sys
+from concurrent.futures import ThreadPoolExecutor
+
+from crates import TOP
+
+PROGRAM = TOP / "nvmecp"
+STORED = TOP / "examples" / "sum-of-blocks.script"
+# The largest input, in bytes.
+MOST_BYTES = 16_777_216
+# How long one run may take, in seconds. No run comes near it.
+PATIENCE = 120
+FAULT = re.compile(rb"line (\d+): [A-Z][A-Za-z]+\n")
+ENTRY = re.compile(rb"#(\d+) h(\d+) n(\d+) c(\d+) ([a-z]+) ([A-Z][A-Za-z]+) r=(\d+) d=([0-9a-f]*)")
+
+
+def run(script, words=("step", "1", "0")):
+    """What the program answers to a script."""
+    return subprocess.run([PROGRAM, *words], input=script, capture_output=True, timeout=PATIENCE, check=False)
+
+
+def told(done):
+    """The status and the beginning of the text of a run, for a person to read."""
+    return f"status {done.returncode}, {done.stdout[:120]!r}{done.stderr[:120]!r}"
+
+
+def answered(script, status, text):
+    """What is wrong with the run of a script that has to end with this status and this text, or None."""
+    done = run(script)
+    fits = done.returncode == status and done.stdout == text and not done.stderr
+    return None if fits else f"{told(done)} and not status {status}, {text[:120]!r}"
+
+
+def header(depth=16, budget=1000, block=512):
+    return f"nvmecp 1 block={block} depth={depth} budget={budget}\n"
+
+
+def script(*lines, **limits):
+    return (header(**limits) + "".join(f"{it}\n" for it in lines)).encode()
+
+
+def entries(text):
+    """The entries of a history by host and ordinal, and the lines behind them; None where a line is none, or numbers do not
+    ascend from 1, or a command stands there twice."""
+    lines = text.split(b"\n")[:-1]
+    found = {}
+    for number, line in enumerate(lines):
+        if line.startswith(b"show "):
+            return found, lines[number:]
+        fits = ENTRY.fullmatch(line)
+        if not fits or int(fits[1]) != number + 1 or (int(fits[2]), int(fits[3])) in found:
+            return None
+        found[int(fits[2]), int(fits[3])] = fits
+    return found, []
+
+
+# ---- scripts as large as they may be
+
+
+def one_transfer():
+    """The largest write and read of one command."""
+    data = bytes(it % 251 for it in range(8192)).hex()
+    lines = ("mem 1 bytes=8192", "phase", "host 1", f"send 1 memwrite ns=1 at=0 data={data}", "take 1", "send 2 memread ns=1 at=0 len=8192",
+             "show mem 1 at=0 len=8192")
+    text = f"#1 h1 n1 c1 memwrite Ok r=0 d=\n#2 h1 n2 c2 memread Ok r=0 d={data}\nshow mem 1 at=0 len=8192 d={data}\n"
+    return answered(script(*lines), 0, text.encode())
+
+
+def most_lines():
+    """16 hosts with 1,024 sends and takes each, each on a byte of its own."""
+    lines = ["mem 1 bytes=16", "phase"]
+    for host in range(1, 17):
+        lines.append(f"host {host}")
+        for it in range(1024):
+            lines += [f"send {it} memfill ns=1 at={host - 1} len=1 value={it % 256}", f"take {it}"]
+    lines.append("show mem 1 at=0 len=16")
+    done = run(script(*lines))
+    read = entries(done.stdout) if done.returncode == 0 else None
+    if read is None:
+        return told(done)
+    found, shown = read
+    wanted = {(host, number) for host in range(1, 17) for number in range(1, 1025)}
+    if set(found) != wanted or any(it[6] != b"Ok" for it in found.values()) or shown != [b"show mem 1 at=0 len=16 d=" + b"ff" * 16]:
+        return "not each command once, or not as it should be"
+    return None
+
+
+def all_memory():
+    """Four namespaces of 16 MiB, filled from end to end by 1 MiB at a time."""
+    size = 1 << 24
+    lines = [f"mem {it} bytes={size}" for it in range(1, 5)] + ["phase", "host 1"]
+    number = 0
+    for namespace in range(1, 5):
+        for at in range(0, size, 1 << 20):
+            number += 1
+            lines += [f"send 1 memfill ns={namespace} at={at} len={1 << 20} value={number}", "take 1"]
+    lines += [f"show mem {it} at={size - 2} len=2" for it in range(1, 5)]
+    text = "".join(f"#{it} h1 n{it} c1 memfill Ok r=0 d=\n" for it in range(1, 65))
+    text += "".join(f"show mem {it} at={size - 2} len=2 d={16 * it:02x}{16 * it:02x}\n" for it in range(1, 5))
+    return answered(script(*lines), 0, text.encode())
+
+
+def all_limits(sends=16_384, phases=1_024, shows=1_024, length=MOST_BYTES):
+    """A script with so many sends, phases and shows that has so many bytes: as many of the sends write as fill it."""
+    lines = [header(256, 10_000_000)[:-1], "mem 1 bytes=16777216"]
+    per_phase = -(-sends // phases)
+    left = sends
+    for _ in range(phases):
+        lines += ["phase", "host 1"]
+        for it in range(min(per_phase, left)):
+            lines.append(f"send {it} memwrite ns=1 at=0 data=")
+        left -= min(per_phase, left)
+    lines += ["show mem 1 at=0 len=1"] * shows
+    missing = length - sum(len(it) + 1 for it in lines)
+    for place, line in enumerate(lines):
+        digits = min(missing, 16_384) // 2 * 2
+        if line.endswith("data=") and digits:
+            lines[place] = line + "0" * digits
+            missing -= digits
+    if missing:
+        lines[-1] = lines[-1].replace("len=1", "len=10" if missing == 1 else "len=100")
+    return "".join(f"{it}\n" for it in lines).encode()
+
+
+def every_limit_at_once():
+    text = all_limits()
+    done = run(text)
+    if len(text) != MOST_BYTES:
+        return f"the script has {len(text)} bytes"
+    read = entries(done.stdout) if done.returncode == 0 else None
+    return None if read and len(read[0]) == 16_384 and len(read[1]) == 1_024 else told(done)
+
+
+def one_past(number, line, **more):
+    """A script that has one more than may be of something is refused at the line where it has it."""
+    text = all_limits(**more, length=0)
+    at = next(place for place, it in enumerate(text.split(b"\n"), 1) if it.startswith(line) and (number := number - 1) < 0)
+    return answered(text, 2, f"line {at}: Limit\n".encode())
+
+
+LIMITS = (
+    ("depth=%s", "nvmecp 1 block=512 depth={} budget=1\nmem 1 bytes=1\nphase\nhost 1\n", 256),
+    ("budget=%s", "nvmecp 1 block=512 depth=1 budget={}\nmem 1 bytes=1\nphase\nhost 1\n", 10_000_000),
+    ("host %s", "nvmecp 1 block=512 depth=1 budget=1\nmem 1 bytes=1\nphase\nhost {}\n", 16),
+    ("bytes=%s", "nvmecp 1 block=512 depth=1 budget=1\nmem 1 bytes={}\nphase\nhost 1\n", 16_777_216),
+    ("mem %s", "nvmecp 1 block=512 depth=1 budget=1\nmem {} bytes=1\nphase\nhost 1\n", 8),
+    ("blocks=%s", "nvmecp 1 block=4096 depth=1 budget=1\nnvm 1 blocks={}\nphase\nhost 1\n", 4_096),
+    ("cid %s", "nvmecp 1 block=512 depth=1 budget=1\nmem 1 bytes=1\nphase\nhost 1\nsend {} memread ns=1 at=0 len=2\n", 65_535),
+    ("value=%s", "nvmecp 1 block=512 depth=1 budget=1\nmem 1 bytes=1\nphase\nhost 1\nsend 1 memfill ns=1 at=0 len=2 value={}\n", 255),
+    ("slot=%s", "nvmecp 1 block=512 depth=1 budget=1\nmem 1 bytes=1\nphase\nhost 1\nsend 1 unload slot={}\n", 4_294_967_295),
+    ("show len=%s", "nvmecp 1 block=512 depth=1 budget=1\nmem 1 bytes=8193\nphase\nhost 1\nshow mem 1 at=0 len={}\n", 8_192),
+)
+
+
+def one_limit(form, most):
+    """A number is taken at its limit, and one more is refused in the line that has it, as is 2^64."""
+    line = form[: form.index("{}")].count("\n") + 1
+    done = run(form.format(most).encode())
+    if done.returncode != 0:
+        return f"at the limit: {told(done)}"
+    return answered(form.format(most + 1).encode(), 2, f"line {line}: Limit\n".encode()) or answered(
+        form.format(1 << 64).encode(), 2, f"line {line}: Number\n".encode())
+
+
+# ---- inputs that are none
+
+
+STRANGE = (
+    ("no byte at all", b"", b"line 1: Order\n"),
+    ("bytes of 0", header().encode() + b"\0\0\0\0\n", b"line 2: Word\n"),
+    ("a byte of 0 behind a word", header().encode() + b"mem\0 1 bytes=1\n", b"line 2: Word\n"),
+    ("what is no UTF-8", header().encode() + b"mem 1 bytes=\xff\xfe\n", b"line 2: Number\n"),
+    ("a word that is no UTF-8", header().encode() + b"\xc3\x28 1\n", b"line 2: Word\n"),
+    ("ends of lines as on other systems", header().encode()[:-1] + b"\r\n", b"line 1: Number\n"),
+    ("a line of 8 MB of one letter", b"x" * 8_000_000 + b"\n", b"line 1: Word\n"),
+    ("a number of 8 MB", header().encode() + b"mem 1 bytes=" + b"9" * 8_000_000 + b"\n", b"line 2: Number\n"),
+    ("8 MB of separators", header().encode() + b"mem" + b" " * 8_000_000 + b"\n", b"line 2: Field\n"),
+    ("8 MB of empty lines", header().encode() + b"\n" * 8_000_000, b"line 2: Word\n"),
+    ("a list of 2 MB of elements", header().encode() + b"mem 1 bytes=1\nphase\nhost 1\nsend 1 memcopy ns=1 at=0 from=" + b"m1:0:1," * 300_000 + b"m1:0:1\n",
+     b"line 5: Limit\n"),
+)
+
+
+# ---- scripts that are cut or changed
+
+
+def fits(text, done):
+    """What is wrong with what a run of a changed script gave, or None: a whole history, or a fault in a line that there is."""
+    if done.stderr:
+        return told(done)
+    if done.returncode == 2:
+        fault = FAULT.fullmatch(done.stdout)
+        return None if fault and 1 <= int(fault[1]) <= text.count(b"\n") + 1 else told(done)
+    read = entries(done.stdout) if done.returncode == 0 else None
+    if read is None:
+        return told(done)
+    return None if len(read[0]) == len(re.findall(rb"^send ", text, re.M)) else f"not each command: {told(done)}"
+
+
+def cut_anywhere(stored):
+    """The stored script, cut behind each of its bytes: a line that is not ended is told, by its number."""
+    def one(length):
+        text = stored[:length]
+        ended = text.count(b"\n")
+        if text and not text.endswith(b"\n"):
+            return answered(text, 2, f"line {ended + 1}: Word\n".encode())
+        return fits(text, run(text))
+    return first_wrong(one, range(len(stored)))
+
+
+def changed_anywhere(stored):
+    """The stored script with one of its bytes changed, each in turn."""
+    chance = random.Random(8)
+
+    def one(place):
+        changed = chance.choice([it for it in b" \n\0\xff09azAZ:=,-" if it != stored[place]])
+        text = stored[:place] + bytes([changed]) + stored[place + 1 :]
+        return fits(text, run(text))
+    return first_wrong(one, range(len(stored)))
+
+
+def first_wrong(one, cases):
+    with ThreadPoolExecutor() as pool:
+        for case, wrong in zip(cases, pool.map(one, cases)):
+            if wrong:
+                return f"at {case}: {wrong}"
+    return None
+
+
+# ---- wild programs
+
+
+def wild_programs(count=400):
+    """Programs of random code: what is refused tells its place, and what runs ends in a known way and within its budget."""
+    chance = random.Random(9)
+    opcodes = (0x07, 0x0F, 0x15, 0x1D, 0x05, 0x61, 0x63, 0x79, 0x7B, 0x85, 0x95, 0xB7, 0xBF, 0xC3, 0xDB, 0xD4, 0x18)
+    lines = ["mem 1 bytes=256", "phase", "host 1", "send 1 setcreate ranges=1:0:64,1:64:64:r", "take 1"]
+    for _ in range(count):
+        code = b"".join(bytes([chance.choice(opcodes), chance.randrange(11) | chance.randrange(11) << 4, chance.randrange(8), 0,
+                               chance.randrange(16), 0, 0, 0]) for _ in range(chance.randrange(1, 12)))
+        lines += [f"send 1 load slot=0 size={len(code) + 8} at=0 data={code.hex()}9500000000000000", "take 1", "send 1 activate slot=0", "take 1",
+                  "send 1 execute slot=0 set=1 p1=0 p2=64 budget=500", "take 1", "send 1 deactivate slot=0", "take 1", "send 1 unload slot=0", "take 1"]
+    lines += ["show mem 1 at=64 len=192"]
+    done = run(script(*lines))
+    read = entries(done.stdout) if done.returncode == 0 else None
+    if read is None:
+        return told(done)
+    found, shown = read
+    ends = {it[6] for it in found.values() if it[5] == b"execute"}
+    known = {b"Ok", b"BadAccess", b"BadJump", b"CallDepth", b"BudgetSpent", b"SlotInactive"}
+    if not ends <= known or shown != [b"show mem 1 at=64 len=192 d=" + b"00" * 192]:
+        return f"{sorted(ends)}, {shown[0][:80]!r}"
+    return None if {b"Ok", b"BadAccess", b"BudgetSpent", b"SlotInactive"} <= ends else f"only {sorted(ends)}"
+
+
+# ---- an output that nobody reads
+
+
+def closed_pipe():
+    """The reader of the output leaves after its first bytes: a failed write, and no other end."""
+    text = script("mem 1 bytes=8192", "phase", "host 1", *(it for _ in range(64) for it in ("send 1 memread ns=1 at=0 len=8192", "take 1")))
+    with subprocess.Popen([PROGRAM, "step", "1", "0"], stdin=subprocess.PIPE, stdout=subprocess.PIPE, stderr=subprocess.PIPE) as it:
+        it.stdin.write(text)
+        it.stdin.close()
+        it.stdout.read(100)
+        it.stdout.close()
+        status, error = it.wait(PATIENCE), it.stderr.read()
+    return None if status == 4 and not error else f"status {status}, {error[:120]!r}"
+
+
+def check_hostile(note):
+    """Runs all cases, and tells each by `note(what, wrong)`."""
+    stored = STORED.read_bytes()
+    note("a write and a read of 8,192 bytes", one_transfer())
+    note("16 hosts and 32,768 lines of sends and takes", most_lines())
+    note("64 MiB of memory, filled from end to end", all_memory())
+    note("every limit of a script at once", every_limit_at_once())
+    note("one send too many", one_past(16_384, b"send", sends=16_385))
+    note("one phase too many", one_past(1_024, b"phase", phases=1_025))
+    note("one show too many", one_past(1_024, b"show", shows=1_025))
+    for name, form, most in LIMITS:
+        note(f"{name % most}, and one more", one_limit(form, most))
+    for name, text, answer in STRANGE:
+        note(name, answered(text, 2, answer))
+    note(f"{len(stored)} scripts that are cut", cut_anywhere(stored))
+    note(f"{len(stored)} scripts of which a byte is changed", changed_anywhere(stored))
+    note("400 programs of random code", wild_programs())
+    note("a reader that leaves", closed_pipe())
+
+
+def main():
+    failed = []
+
+    def note(what, wrong):
+        print(f"FAILED  {what}: {wrong}" if wrong else f"passed  {what}", flush=True)
+        failed.extend([what] if wrong else [])
+
+    check_hostile(note)
+    return 1 if failed else 0
+
+
+if __name__ == "__main__":
+    sys.exit(main())
