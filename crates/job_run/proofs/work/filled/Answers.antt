@@ -1,0 +1,13 @@
+use Rattle.std.proofs.Common.{◌≡◌, List, [], ℕ, map, replicate, ap}
+use Rattle.trail_model.specs.Pieces.{RegionBytes}
+use Rattle.job_run.specs.Works.{region_bytes, with_bytes}
+use Rattle.job_run.proofs.Working.{answer_with, leaves-so}
+use Rattle.job_run.proofs.work.filled.Goals as goal
+
+pub fill-requires : goal.fill-requires
+fill-requires c = c.requires.1.one
+
+pub returns : goal.returns
+returns c len counts =
+    leaves-so c.leave.result (answer_with c.args.reply.items) (answer_with []) (region_bytes c.fill.new.pieces.items)
+    (map (with_bytes (replicate len c.args.value)) (region_bytes c.args.pieces.items)) c.leave.ensures (ap answer_with c.requires.1.empty) (c.fill.ensures len counts)

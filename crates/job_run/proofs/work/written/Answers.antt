@@ -1,0 +1,10 @@
+use Rattle.std.proofs.Common.{◌≡◌, List, [], ℕ, map, ap}
+use Rattle.trail_model.specs.Pieces.{RegionBytes}
+use Rattle.job_run.specs.Works.{region_bytes, with_bytes}
+use Rattle.job_run.proofs.Working.{answer_with, leaves-so}
+use Rattle.job_run.proofs.work.written.Goals as goal
+
+pub returns : goal.returns
+returns c =
+    leaves-so c.leave.result (answer_with c.args.reply.items) (answer_with []) (region_bytes c.write.new.pieces.items)
+    (map (with_bytes c.args.bytes.now) (region_bytes c.args.pieces.items)) c.leave.ensures (ap answer_with c.requires.empty) c.write.ensures

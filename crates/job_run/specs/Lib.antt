@@ -1,0 +1,5 @@
+pub mod Held
+pub mod Own
+pub mod Windows
+pub mod Works
+pub mod private
