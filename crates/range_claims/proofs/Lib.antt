@@ -8,6 +8,7 @@ pub mod Keeping
 pub mod Keys
 pub mod Lowers
 pub mod Meets
+pub mod Probes
 pub mod Raises
 pub mod Sharings
 pub mod Splits

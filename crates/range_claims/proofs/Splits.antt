@@ -3,6 +3,7 @@ use Rattle.std.proofs.Common.{◌≡◌, ℕ, zero, suc, ◌+◌, ◌<◌, ◌�
 use Rattle.std.specs.List.{insert, prefix_len, remove}
 use Rattle.std.specs.List.Sorted.{IsPartitionedBy}
 use Rattle.std.proofs.lemmas.Bool.{true≢false}
+use Rattle.std.proofs.lemmas.List.{get_or_default}
 use Rattle.range_claims.specs.Changes.{cut_at, ended, joined_at, joined_after}
 use Rattle.range_claims.specs.Segments.{Ascend, IsFrom}
 use Rattle.range_claims.specs.declared.segments.Segment.{Segment}
@@ -20,6 +21,19 @@ ends_ascend low (s ∷ segments) zero (suc j) d (here, rest) h below = later s.t
     later low (s ∷ some) (suc j) d (here, rest) below = let l = later s.to some j d rest (omega arith) in omega (arith, l, here.low, here.some)
 ends_ascend low (s ∷ segments) (suc i) zero d a h below = absurd (omega arith)
 ends_ascend low (s ∷ segments) (suc i) (suc j) d (here, rest) h below = ends_ascend s.to segments i j d rest (omega arith) (omega arith)
+
+-- what holds of the end of a segment holds of that of each before it, and of that of each behind it
+pub ended_to : (place m : ℕ) (segments : List Segment) (d e : Segment) (k : ℕ) → Ascend 0 segments → m < length segments → (get_or segments m e).to ≤ place → k < m + 1 → (get_or segments k d).to ≤ place
+ended_to place m segments d e k a below h before =
+    let later = ends_ascend 0 segments k m d a (omega arith) below in
+    let same : (get_or segments m d).to ≡ (get_or segments m e).to = ap (λ (s : Segment). s.to) (get_or_default segments m d e below) in
+    omega arith
+
+pub behind_from : (place m : ℕ) (segments : List Segment) (d e : Segment) (k : ℕ) → Ascend 0 segments → k < length segments → place < (get_or segments m e).to → m ≤ k → place < (get_or segments k d).to
+behind_from place m segments d e k a below h behind =
+    let later = ends_ascend 0 segments m k d a behind below in
+    let same : (get_or segments m d).to ≡ (get_or segments m e).to = ap (λ (s : Segment). s.to) (get_or_default segments m d e (omega arith)) in
+    omega arith
 
 -- how many pass a test from the front on
 pub prefix_is : {X : Type 0} (p : X → Bool) (xs : List X) (i : ℕ) → i ≤ length xs → ((k : ℕ) (d : X) → k < i → p (get_or xs k d) ≡ true) → ((d : X) → i < length xs → p (get_or xs i d) ≡ false) → i ≡ prefix_len p xs

@@ -3,3 +3,4 @@ pub mod Counts
 pub mod Kept
 pub mod Places
 pub mod Segments
+pub mod Steps

@@ -1,15 +1,18 @@
 // The claims that are kept.
-ghost use Rattle.std.specs.Prelude.{◌≡◌, ◌==◌, ◌<◌, ◌≤◌, [], ◌∷◌, ◌++◌, Some, IsTrue, IfOk, length, not, position};
+ghost use Rattle.std.specs.Prelude.{◌≡◌, ◌==◌, ◌+◌, ◌<◌, ◌≤◌, [], ◌∷◌, ◌++◌, Some, IsTrue, IfOk, length, not, position};
 ghost use Rattle.std.specs.List.{list_any};
 ghost use Rattle.std.specs.Vec.{vec_capacity};
 ghost use Rattle.cp_base.specs.Touching.{meets};
 ghost use Rattle.range_claims.specs.Kept.{footprint_under, is_held, is_kept, without_key};
+ghost use Rattle.range_claims.specs.Steps.{steps_at_most};
 
 use crate::runs::{add_runs, counts_any, remove_runs};
 use crate::segments::Segments;
+use crate::steps::Steps;
 use cp_base::{Footprint, NoMemory};
 use std::alloc::Global;
-use std::marker::Model;
+use std::marker::{Brand, Model};
+use std::sync::ledger::{Blank, Ledger};
 
 // The room for the segments of one claim: two for each of its ranges, and as much again for those that are cut.
 const SEGMENTS_A_CLAIM: usize = 80;
@@ -80,6 +83,17 @@ fn take_out(kept: &mut Vec<Claim>, key: u32) -> Footprint
     kept.remove(place).footprint
 }
 
+// Whether what a command touches meets nothing that is kept, with a counter of steps that nobody reads.
+fn free_unread<L: Ledger>(claims: &Claims, footprint: &Footprint, blank: Blank) -> bool
+    requires name { blank.name ≡ L.name }
+    requires parts { blank.parts ≡ L.parts }
+    requires one { L.parts ≡ 1 }
+    ensures { result ≡ not (list_any (λ claim. meets footprint.now claim.footprint) claims.now.kept) }
+{
+    let mut steps = Steps::<L>::new(blank);
+    claims.free_counted(footprint, &mut steps)
+}
+
 impl Claims {
     /// No claim yet, with the room for so many of them.
     pub fn new(alloc: Global, most: u32) -> Result<Claims, NoMemory>
@@ -102,9 +116,22 @@ impl Claims {
     pub fn free(&self, footprint: &Footprint) -> bool
         ensures { result ≡ not (list_any (λ claim. meets footprint.now claim.footprint) self.now.kept) }
     {
-        !(counts_any(&self.writes, &footprint.writes)
-            || counts_any(&self.reads, &footprint.writes)
-            || counts_any(&self.writes, &footprint.reads))
+        free_unread::<Brand>(self, footprint, Blank::new(1))
+    }
+
+    /// The same, with a counter of the segments that are read: for each range of the command at most two for each
+    /// binary digit of twice the number of kept ranges, and two more.
+    pub fn free_counted<L: Ledger>(&self, footprint: &Footprint, steps: &mut Steps<L>) -> bool
+        ensures value { result ≡ not (list_any (λ claim. meets footprint.now claim.footprint) self.now.kept) }
+        ensures steps { steps.new ≤ steps.old + steps_at_most footprint.now self.now.kept }
+    {
+        if counts_any(&self.writes, &footprint.writes, steps) {
+            return false;
+        }
+        if counts_any(&self.reads, &footprint.writes, steps) {
+            return false;
+        }
+        !counts_any(&self.writes, &footprint.reads, steps)
     }
 
     /// Whether a kept claim holds a slot.

@@ -4,8 +4,11 @@
 mod claims;
 mod places;
 mod runs;
+mod search;
 mod segments;
+mod steps;
 #[cfg(test)]
 mod tests;
 
 pub use claims::{Claim, Claims};
+pub use steps::Steps;

@@ -1,13 +1,17 @@
 // The runs of what a command touches, in the segments of what all of them touch.
-ghost use Rattle.std.specs.Prelude.{◌≡◌, ℕ, ◌+◌, ◌≤◌, length, List};
+ghost use Rattle.std.specs.Prelude.{◌≡◌, ℕ, ◌+◌, ◌*◌, ◌≤◌, length, List};
 ghost use Rattle.cp_base.specs.Region.{Region};
 ghost use Rattle.cp_base.specs.Touching.{share_byte};
 ghost use Rattle.cp_base.specs.declared.limits.TheConstants.{MAX_RUNS};
 ghost use Rattle.range_claims.specs.Counts.{ArePlaced, CountWith, HaveRoom, IsCountOf, count_at, regions_at};
 ghost use Rattle.range_claims.specs.Segments.{AreMaximal};
+ghost use Rattle.range_claims.specs.Steps.{binary_digits};
 
+use crate::search::counts_range;
 use crate::segments::Segments;
+use crate::steps::Steps;
 use cp_base::Spans;
+use std::sync::ledger::Ledger;
 
 // Counts the bytes of runs once more.
 pub(crate) fn add_runs(segments: &mut Segments, runs: &Spans)
@@ -40,13 +44,14 @@ pub(crate) fn remove_runs(segments: &mut Segments, runs: &Spans)
 }
 
 // Whether a byte of a run is counted.
-pub(crate) fn counts_any(segments: &Segments, runs: &Spans) -> bool
-    ensures { (regions : List Region) → IsCountOf regions segments.now.segments → ArePlaced regions
+pub(crate) fn counts_any<L: Ledger>(segments: &Segments, runs: &Spans, steps: &mut Steps<L>) -> bool
+    ensures value { (regions : List Region) → IsCountOf regions segments.now.segments → ArePlaced regions
         → result ≡ share_byte runs.now regions }
+    ensures steps { steps.new ≤ steps.old + length runs.now * (binary_digits (length segments.now.segments) + 1) }
 {
     let count = runs.count();
     for i in 0..count {
-        if segments.counts_any(&runs.as_slice()[i]) {
+        if counts_range(segments, &runs.as_slice()[i], steps) {
             return true;
         }
     }

@@ -1,16 +1,19 @@
 // Bytes with the number of the ranges that have them, as segments that are as few as can be.
-ghost use Rattle.std.specs.Prelude.{◌≡◌, ℕ, ◌+◌, ◌*◌, ◌^◌, ◌<◌, ◌≤◌, [], ◌∷◌, ◌++◌, All, IfOk, IfSome, length, take, drop, slice_get, slice_index_or, option_map};
+ghost use Rattle.std.specs.Prelude.{◌≡◌, ℕ, ◌+◌, ◌*◌, ◌^◌, ◌<◌, ◌≤◌, [], ◌∷◌, ◌++◌, All, IfOk, IfSome, Some, length, take, drop, slice_get, slice_index_or, option_map};
 ghost use Rattle.std.specs.Vec.{vec_capacity};
 ghost use Rattle.range_claims.specs.Changes.{added, cut_at, ended, joined_at, joins, lowered, raised, raised_from, taken_away};
-ghost use Rattle.range_claims.specs.Counts.{AreCounted, IsPlaced, any_between, count_at, counted_once, held_at};
+ghost use Rattle.range_claims.specs.Counts.{AreCounted, IsPlaced, count_at, counted_once, held_at};
 ghost use Rattle.range_claims.specs.Places.{base_of, end_of, start_of};
 ghost use Rattle.range_claims.specs.declared.segments.Segment.{Segment};
-ghost use Rattle.range_claims.specs.Segments.{AreMaximal, AreSmall, Ascend, IsCut};
+ghost use Rattle.range_claims.specs.Segments.{AreMaximal, AreSmall, Ascend, IsCut, IsFrom};
+ghost use Rattle.range_claims.specs.Steps.{region_of};
 
 use crate::places::{base, end, start};
+use crate::steps::Steps;
 use cp_base::{ByteRange, NoMemory, SpaceId};
 use std::alloc::Global;
 use std::marker::Model;
+use std::sync::ledger::Ledger;
 
 /// Some bytes of one namespace, from one place up to and without another, and how many ranges have each of them.
 #[derive(Clone, Copy, Debug, PartialEq, Eq)]
@@ -153,6 +156,19 @@ fn lower(list: &mut Vec<Segment>, from: u64, to: u64)
     }
 }
 
+// The bytes of a segment.
+fn bytes_of(segment: &Segment) -> Option<ByteRange>
+    requires { IsFrom 0 segment.now }
+    ensures { result ≡ Some (region_of segment.now) }
+{
+    let first = base(segment.space);
+    ByteRange::new(
+        segment.space,
+        segment.from - first,
+        segment.to - segment.from,
+    )
+}
+
 /// Bytes with the number of the ranges that have them: segments in order, as few as can be.
 #[derive(Debug, Drop)]
 pub(crate) struct Segments {
@@ -217,14 +233,23 @@ impl Segments {
         join(&mut self.list, to);
     }
 
-    // Whether a byte of a range is counted.
-    pub(crate) fn counts_any(&self, range: &ByteRange) -> bool
-        ensures value { result ≡ any_between self.now.segments (start_of range.now) (end_of range.now) }
+    // How many segments.
+    pub(crate) fn count(&self) -> usize
+        ensures value { result ≡ length self.now.segments }
         ensures fewest { AreMaximal self.now.segments }
-        ensures placed { IsPlaced range.now }
     {
-        let to = end(range);
-        let i = first_behind(self.list.as_slice(), start(range));
-        i < self.list.len() && self.list[i].from < to
+        self.list.len()
+    }
+
+    // The bytes of a segment, for one step. `None` exactly where there are not so many segments, for one step too.
+    pub(crate) fn probe<L: Ledger>(&self, i: usize, steps: &mut Steps<L>) -> Option<ByteRange>
+        ensures value { result ≡ option_map region_of (slice_get self.now.segments i) }
+        ensures steps { steps.new ≡ steps.old + 1 }
+    {
+        steps.add_one();
+        if i < self.list.len() {
+            return bytes_of(&self.list[i]);
+        }
+        None
     }
 }

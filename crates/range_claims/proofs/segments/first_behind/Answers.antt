@@ -1,24 +1,9 @@
 -- Later segments end later, so each half is decided by the segment in the middle.
-use Rattle.std.proofs.Common.{◌≡◌, ℕ, ◌+◌, ◌-◌, ◌/◌, ◌<◌, ◌≤◌, List, length, get_or, nat_le, arith, subst, ap}
-use Rattle.std.proofs.lemmas.List.{get_or_default}
-use Rattle.range_claims.specs.Segments.{Ascend}
+use Rattle.std.proofs.Common.{ℕ, ◌+◌, ◌-◌, ◌/◌, ◌<◌, ◌≤◌, length, get_or, nat_le, arith}
 use Rattle.range_claims.specs.declared.segments.Segment.{Segment}
 use Rattle.range_claims.proofs.Basics.{false_le, true_le}
-use Rattle.range_claims.proofs.Splits.{ends_ascend, prefix_is}
+use Rattle.range_claims.proofs.Splits.{behind_from, ended_to, prefix_is}
 use Rattle.range_claims.proofs.segments.first_behind.Goals as goal
-
--- what holds of the end of a segment holds of that of each before it, and of that of each behind it
-ended_to : (place m : ℕ) (segments : List Segment) (d e : Segment) (k : ℕ) → Ascend 0 segments → m < length segments → (get_or segments m e).to ≤ place → k < m + 1 → (get_or segments k d).to ≤ place
-ended_to place m segments d e k a below h before =
-    let later = ends_ascend 0 segments k m d a (omega arith) below in
-    let same : (get_or segments m d).to ≡ (get_or segments m e).to = ap (λ (s : Segment). s.to) (get_or_default segments m d e below) in
-    omega arith
-
-behind_from : (place m : ℕ) (segments : List Segment) (d e : Segment) (k : ℕ) → Ascend 0 segments → k < length segments → place < (get_or segments m e).to → m ≤ k → place < (get_or segments k d).to
-behind_from place m segments d e k a below h behind =
-    let later = ends_ascend 0 segments m k d a behind below in
-    let same : (get_or segments m d).to ≡ (get_or segments m e).to = ap (λ (s : Segment). s.to) (get_or_default segments m d e (omega arith)) in
-    omega arith
 
 pub loop-low-preserved-then-list-middle : goal.loop-low-preserved-then-list-middle
 loop-low-preserved-then-list-middle c = record {
