@@ -49,7 +49,7 @@ fn given(alloc: Global, words: &str, input: &str, output: &str) -> Option<(u8, b
 }
 
 // What an input gives: the status, and the text that is written.
-const CASES: [(&str, u8, &str); 32] = [
+const CASES: [(&str, u8, &str); 35] = [
     (
         WRITE,
         0,
