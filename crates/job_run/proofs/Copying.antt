@@ -1,23 +1,22 @@
 -- A copy: the destination's piece is emptied, which the sources do not see, and then has the new bytes.
-use Rattle.std.proofs.Common.{◌≡◌, ℕ, zero, suc, ◌+◌, ◌-◌, ◌<◌, ◌≤◌, ◌==◌, nat_le, nat_lt, Bool, true, false, ◌&&◌, List, [], ◌∷◌, ◌++◌, length, map, drop, take, replicate, get_or, set, slice_get, slice_index, Option, Some, None, refl, sym, ap, subst, ◌∙◌, ◌⊎◌, inl, inr, ⊎_elim, arith, if◌then◌else◌, append-nil}
+use Rattle.std.proofs.Common.{◌≡◌, ℕ, zero, suc, ◌+◌, ◌-◌, ◌<◌, Bool, true, false, List, [], ◌∷◌, ◌++◌, length, map, get_or, set, slice_get, slice_index, Some, refl, sym, ap, subst, ◌∙◌, inl, inr, arith, if◌then◌else◌, append-nil}
 use Rattle.std.specs.List.{AllByRecursion}
-use Rattle.std.proofs.lemmas.Bool.{true≢false, and_from, and_parts}
-use Rattle.std.proofs.lemmas.Bool.Decides.{nat_tests}
+use Rattle.std.proofs.lemmas.Bool.{true≢false}
 use Rattle.std.proofs.Math.ListN.{length-set}
 use Rattle.std.proofs.lemmas.List.{drop_all, length-map}
 use Rattle.cp_base.specs.Buffer.{Buffer}
 use Rattle.cp_base.specs.Configuration.{Configuration}
 use Rattle.cp_base.specs.Pieces.{patched}
-use Rattle.cp_base.specs.Region.{Region, region_of}
-use Rattle.cp_base.specs.Sharing.{AreDisjoint, IsIn, same_region, same_space, source_region}
+use Rattle.cp_base.specs.Region.{Region}
+use Rattle.cp_base.specs.Sharing.{AreDisjoint, IsIn, same_region, source_region}
 use Rattle.cp_base.specs.declared.lists.CopySource.{CopySource}
 use Rattle.cp_base.specs.declared.region.SpaceId.{SpaceId}
 use Rattle.cp_base.specs.declared.replies.Piece.{Piece}
-use Rattle.trail_model.specs.Pieces.{AllBytes, RegionBytes, carried, gathered_joined, has_byte}
+use Rattle.trail_model.specs.Pieces.{RegionBytes, carried, gathered_joined, has_byte}
 use Rattle.trail_model.proofs.Bytes.{gathered_joined-same}
-use Rattle.trail_model.proofs.Regions.{IsInSome, has_byte-in, out-has_byte, same_space-itself, same_space-true}
+use Rattle.trail_model.proofs.Regions.{IsInSome, out-has_byte}
 use Rattle.job_run.specs.Held.{IsAlone, IsBeside, IsHeld, IsSource, BeginsNowhere, begins, holds}
-use Rattle.job_run.specs.Works.{byte_counts, new_piece, piece_regions, pieces_with, region_bytes, with_bytes}
+use Rattle.job_run.specs.Works.{byte_counts, piece_regions, pieces_with, region_bytes, with_bytes}
 use Rattle.job_run.proofs.Holding.{held-parts, same_region-true}
 
 -- the pieces where that of a region has no bytes

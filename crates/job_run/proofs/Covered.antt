@@ -1,5 +1,5 @@
 -- Sources of a copy lie in runs, and its destination is a piece by itself.
-use Rattle.std.proofs.Common.{◌≡◌, ℕ, ◌+◌, ◌<◌, ◌≤◌, ◌==◌, nat_le, nat_lt, Bool, true, false, ◌&&◌, ◌||◌, List, [], ◌∷◌, length, map, All, refl, sym, ap, subst, ◌∙◌, ◌⊎◌, inl, inr, ⊎_elim, arith, if◌then◌else◌}
+use Rattle.std.proofs.Common.{◌≡◌, ℕ, ◌+◌, ◌<◌, ◌≤◌, ◌==◌, nat_le, nat_lt, Bool, true, false, ◌&&◌, ◌||◌, List, [], ◌∷◌, length, map, All, refl, sym, ap, ◌∙◌, ◌⊎◌, inl, inr, ⊎_elim, arith, if◌then◌else◌}
 use Rattle.std.specs.Prelude.{AllPairs}
 use Rattle.std.specs.List.{AllByRecursion}
 use Rattle.std.proofs.lemmas.Bool.{true≢false, and_from, and_parts}
@@ -10,7 +10,7 @@ use Rattle.cp_base.specs.Runs.{hull, is_apart_before, runs_of, space_before, wit
 use Rattle.cp_base.specs.Sharing.{AreDisjoint, IsIn, any_overlap, meets_any, same_space, shares_byte}
 use Rattle.cp_base.specs.declared.limits.TheConstants.{MAX_NAMESPACE}
 use Rattle.cp_base.specs.declared.region.SpaceId.{SpaceId}
-use Rattle.cp_base.proofs.Runs.{ComesBefore, IsApart, IsApart-parts, apart_runs, space_before-itself}
+use Rattle.cp_base.proofs.Runs.{IsApart, IsApart-parts, apart_runs, space_before-itself}
 use Rattle.cp_base.proofs.Sharing.{AllPairs-head, AllPairs-tail, AreDisjoint-from_false, both_false}
 use Rattle.trail_model.specs.Footprints.{with_region}
 use Rattle.trail_model.specs.Pieces.{RegionBytes}

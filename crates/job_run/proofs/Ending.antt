@@ -1,15 +1,13 @@
 -- How the device's own programs end on pieces.
-use Rattle.std.proofs.Common.{◌≡◌, ℕ, ◌+◌, ◌%◌, ◌<◌, ◌≤◌, Bool, true, false, not, ◌&&◌, nat_lt, List, [], ◌∷◌, length, length-take-le, min, sum, take, get_or, set, slice_get, Option, Some, refl, sym, ap, subst, ◌∙◌, arith}
+use Rattle.std.proofs.Common.{◌≡◌, ℕ, ◌%◌, ◌<◌, ◌≤◌, Bool, true, false, not, ◌&&◌, nat_lt, List, [], ◌∷◌, length, length-take-le, sum, take, get_or, set, slice_get, Option, Some, refl, sym, ap, subst, ◌∙◌, arith}
 use Rattle.std.proofs.lemmas.Bool.{lt-ltb}
-use Rattle.cp_base.specs.Answer.{Answer}
 use Rattle.cp_base.specs.Pieces.{patched}
 use Rattle.cp_base.specs.declared.lists.MemRange.{MemRange}
 use Rattle.cp_base.specs.declared.replies.Piece.{Piece}
 use Rattle.cp_base.specs.declared.replies.Status.TheVariants as status
-use Rattle.bpf_isa.specs.declared.end.End.TheVariants as end
 use Rattle.bpf_model.specs.Memory.{Memory, allows_writing, overwritten, range_at}
 use Rattle.bpf_model.specs.Outcome.{RunOutcome}
-use Rattle.device_model.specs.Builtin.{Builtin, Classes, builtin_outcome, common_len, cost_of, ends_with, is_forbidden, left_by, marks, marks_of, result_of, window_at}
+use Rattle.device_model.specs.Builtin.{Builtin, Classes, builtin_outcome, common_len, cost_of, is_forbidden, left_by, marks, marks_of, result_of, window_at}
 use Rattle.device_model.specs.Execution.{told_of}
 use Rattle.trail_model.specs.LocalEffects.{ranges_with}
 use Rattle.trail_model.specs.Pieces.{RegionBytes}

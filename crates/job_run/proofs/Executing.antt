@@ -1,5 +1,5 @@
 -- Executions on pieces: what a program sees of them, and what it leaves in them.
-use Rattle.std.proofs.Common.{◌≡◌, ℕ, zero, suc, ◌+◌, ◌-◌, ◌^◌, ◌<◌, ◌≤◌, ◌==◌, Bool, true, false, ◌&&◌, ◌||◌, cond, List, [], ◌∷◌, All, get_or, length, map, drop, slice_index, refl, sym, ap, subst, ◌∙◌, ◌⊎◌, inl, inr, ⊎_elim, arith, if◌then◌else◌}
+use Rattle.std.proofs.Common.{◌≡◌, ℕ, zero, suc, ◌+◌, ◌-◌, ◌^◌, ◌<◌, ◌≤◌, Bool, true, false, cond, List, [], ◌∷◌, All, get_or, length, map, slice_index, refl, sym, ap, subst, ◌∙◌, ◌⊎◌, inl, inr, ⊎_elim, arith, if◌then◌else◌}
 use Rattle.std.specs.List.{AllByRecursion}
 use Rattle.std.proofs.lemmas.Bool.{true≢false}
 use Rattle.std.proofs.lemmas.List.{length-map}
@@ -13,11 +13,11 @@ use Rattle.cp_base.specs.declared.region.SpaceId.TheVariants.{Mem}
 use Rattle.cp_base.specs.declared.replies.Piece.{Piece}
 use Rattle.cp_base.proofs.Sharing.{both_false}
 use Rattle.bpf_model.specs.Memory.{AreApart, Memory, allows_writing, bytes_from, windows_of}
-use Rattle.bpf_model.proofs.Writing.{bytes_from-same, length-bytes_from}
+use Rattle.bpf_model.proofs.Writing.{bytes_from-same}
 use Rattle.device_model.specs.Execution.{Executable, outcome_on}
 use Rattle.trail_model.specs.Footprints.{writable_ranges}
 use Rattle.trail_model.specs.LocalEffects.{memory_among, ranges_with}
-use Rattle.trail_model.specs.Pieces.{AllBytes, RegionBytes, carried, gathered, has_byte}
+use Rattle.trail_model.specs.Pieces.{AllBytes, RegionBytes, carried}
 use Rattle.trail_model.proofs.Executions.{run-confined, writable-some}
 use Rattle.trail_model.proofs.Regions.{IsInSome, in-has_byte, out-has_byte, unmet}
 use Rattle.job_run.specs.Held.{IsRange}

@@ -1,5 +1,5 @@
 -- The device's own programs on pieces: how they end, and the marks that they leave.
-use Rattle.std.proofs.Common.{◌≡◌, ℕ, zero, suc, ◌+◌, ◌-◌, ◌%◌, ◌<◌, ◌≤◌, Bool, true, false, not, ◌&&◌, ◌==◌, nat_lt, nat_le, zip, length-append, if◌then◌else◌, List, [], ◌∷◌, ◌++◌, length, map, min, sum, take, drop, set, get_or, slice_get, slice_index, Option, Some, None, unwrap_or, refl, sym, ap, subst, ◌∙◌, ◌⊎◌, inl, inr, ⊎_elim, arith}
+use Rattle.std.proofs.Common.{◌≡◌, ℕ, zero, suc, ◌+◌, ◌<◌, ◌≤◌, Bool, true, false, not, ◌&&◌, ◌==◌, nat_lt, nat_le, zip, length-append, if◌then◌else◌, List, [], ◌∷◌, ◌++◌, length, map, min, sum, take, drop, set, get_or, slice_get, slice_index, Some, unwrap_or, refl, sym, ap, ◌∙◌, ◌⊎◌, inl, inr, arith}
 use Rattle.std.specs.List.{AllByRecursion}
 use Rattle.std.specs.Prelude.{position}
 use Rattle.std.proofs.Math.Seq.{take-add}
@@ -7,23 +7,22 @@ use Rattle.std.proofs.lemmas.Bool.{le-ltb, lt-ltb}
 use Rattle.std.proofs.lemmas.List.{drop_all, length-map, map-append}
 use Rattle.std.proofs.lemmas.List.Sums.{sum_by-cons}
 use Rattle.cp_base.specs.Pieces.{patched}
-use Rattle.cp_base.specs.Region.{Region}
 use Rattle.cp_base.specs.Sharing.{AreDisjoint, range_region}
 use Rattle.cp_base.specs.declared.lists.MemRange.{MemRange}
 use Rattle.cp_base.specs.declared.region.SpaceId.TheVariants.{Mem}
 use Rattle.cp_base.specs.declared.replies.Piece.{Piece}
 use Rattle.bpf_isa.specs.declared.end.End.TheVariants as end
-use Rattle.bpf_model.specs.Memory.{Memory, allows_writing, bytes_from, overwritten, range_at, windows_of}
+use Rattle.bpf_model.specs.Memory.{Memory, bytes_from, overwritten, range_at, windows_of}
 use Rattle.bpf_model.specs.Outcome.{RunOutcome}
 use Rattle.bpf_model.proofs.Writing.{bytes_from-at, bytes_from-same, length-bytes_from, written-inside, written-outside}
-use Rattle.device_model.specs.Builtin.{Builtin, Classes, builtin_outcome, common_len, cost_of, ends_with, first_difference, is_forbidden, left_by, marks, marks_of, result_of, window_at}
+use Rattle.device_model.specs.Builtin.{Builtin, builtin_outcome, common_len, cost_of, ends_with, first_difference, is_forbidden, left_by, marks_of, result_of, window_at}
 use Rattle.trail_model.specs.LocalEffects.{ranges_with}
 use Rattle.trail_model.specs.Pieces.{RegionBytes}
 use Rattle.trail_model.proofs.Bytes.{length-patched, patched-inside, patched-outside}
 use Rattle.job_run.specs.Windows.{piece_bytes}
 use Rattle.job_run.specs.Works.{AreOfRanges, memory_in, region_bytes, with_bytes}
 use Rattle.job_run.proofs.Covered.{LieApart, none-apart}
-use Rattle.job_run.proofs.Executing.{listed, pieces-at_first, windows-seen}
+use Rattle.job_run.proofs.Executing.{listed, pieces-at_first}
 
 -- ---- how a program of the device ends, by the bytes that it sees
 

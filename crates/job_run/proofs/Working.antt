@@ -1,18 +1,18 @@
 -- What work of each kind finds, and what it leaves.
-use Rattle.std.proofs.Common.{◌≡◌, ℕ, zero, suc, ◌+◌, ◌-◌, ◌*◌, ◌%◌, ◌<◌, ◌≤◌, ◌==◌, Bool, true, false, not, ◌&&◌, ◌||◌, nat_lt, if◌then◌else◌, List, [], ◌∷◌, ◌++◌, length, map, replicate, drop, take, Option, Some, None, is_none, option_map, unwrap_or, refl, sym, ap, subst, ◌∙◌, ◌⊎◌, inl, inr, arith, take_all, length-append, pos}
-use Rattle.std.specs.Prelude.{IsTrue, vec_capacity}
+use Rattle.std.proofs.Common.{◌≡◌, ℕ, ◌+◌, ◌-◌, ◌*◌, ◌%◌, ◌<◌, ◌≤◌, ◌==◌, Bool, false, not, ◌||◌, nat_lt, if◌then◌else◌, List, [], ◌∷◌, length, map, replicate, drop, take, Option, Some, None, is_none, option_map, refl, sym, ap, subst, ◌∙◌, inl, arith, take_all, length-append, pos}
+use Rattle.std.specs.Prelude.{vec_capacity}
 use Rattle.std.specs.List.{AllByRecursion}
 use Rattle.std.proofs.lemmas.Bool.{true≢false}
 use Rattle.std.proofs.lemmas.Bool.Decides.{nat_tests}
-use Rattle.std.proofs.lemmas.List.{length-map, length-replicate}
+use Rattle.std.proofs.lemmas.List.{length-replicate}
 use Rattle.cp_base.specs.Answer.{Answer, only_status}
 use Rattle.cp_base.specs.Buffer.{Buffer}
-use Rattle.cp_base.specs.Checks.{Check, any_without_bytes, copy_checks, destination_of, first_failing, refuse, total_len}
+use Rattle.cp_base.specs.Checks.{any_without_bytes, copy_checks, destination_of, refuse, total_len}
 use Rattle.cp_base.specs.Configuration.{Configuration, bare}
 use Rattle.cp_base.specs.Region.{Region}
 use Rattle.cp_base.specs.Runs.{runs_of}
 use Rattle.cp_base.specs.Sets.{ranges_under}
-use Rattle.cp_base.specs.Sharing.{AreDisjoint, meets_any, range_region, source_region}
+use Rattle.cp_base.specs.Sharing.{AreDisjoint, meets_any, source_region}
 use Rattle.cp_base.specs.declared.commands.Command.{Command}
 use Rattle.cp_base.specs.declared.commands.Command.TheVariants as command
 use Rattle.cp_base.specs.declared.lists.CopySource.{CopySource}
@@ -24,7 +24,7 @@ use Rattle.cp_base.specs.declared.region.SpaceId.TheVariants as space
 use Rattle.cp_base.specs.declared.replies.Piece.{Piece}
 use Rattle.cp_base.specs.declared.replies.Status.TheVariants as status
 use Rattle.cp_base.proofs.Sharing.{both_false}
-use Rattle.device_model.specs.Checks.{checks_of, execute_checks, refusal_of, runnable_checks}
+use Rattle.device_model.specs.Checks.{checks_of, execute_checks, runnable_checks}
 use Rattle.device_model.specs.Builtin.{Builtin, builtin_at}
 use Rattle.device_model.specs.Execution.{Executable, Loaded, OfDevice, executable_in, loaded_or, outcome_on, told_of}
 use Rattle.device_model.specs.Memory.{moves_bytes}
@@ -45,7 +45,7 @@ use Rattle.job_run.specs.declared.work.Worked.{Worked}
 use Rattle.job_run.specs.private.Kinds.{IsCopyable, IsExecutable, IsOfSlot, IsReadable, IsWritable, Leaves, source_regions}
 use Rattle.job_run.proofs.Executing.{run-put}
 use Rattle.job_run.proofs.Items.{total-cons}
-use Rattle.job_run.proofs.Covered.{IsCovered, LieApart, alone-region, covered-held, covered-short, each-region, holds-from, nowhere-runs, region-apart, region-covered, region-each, regions_of_pieces, runs-apart, runs-cover, runs-unmet, sources-unmet}
+use Rattle.job_run.proofs.Covered.{IsCovered, LieApart, alone-region, covered-held, covered-short, holds-from, nowhere-runs, region-apart, region-covered, region-each, regions_of_pieces, runs-apart, runs-cover, runs-unmet, sources-unmet}
 use Rattle.job_run.proofs.Holding.{held-here, same_region-itself}
 
 abbrev effect_in : Configuration → State → Work → LocalEffect

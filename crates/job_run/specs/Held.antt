@@ -1,5 +1,5 @@
 -- Which piece has bytes of a namespace. This project's own.
-use Rattle.std.specs.Prelude.{◌≡◌, ℕ, ◌+◌, ◌≤◌, ◌<◌, ◌==◌, nat_le, Bool, true, false, ◌&&◌, ◌⊎◌, IsTrue, IsFalse, List, [], ◌∷◌, length}
+use Rattle.std.specs.Prelude.{◌≡◌, ℕ, ◌+◌, ◌≤◌, ◌<◌, ◌==◌, nat_le, Bool, ◌&&◌, ◌⊎◌, IsTrue, IsFalse, List, [], ◌∷◌, length}
 use Rattle.cp_base.specs.Region.{Region}
 use Rattle.cp_base.specs.Sharing.{AreDisjoint, same_space}
 use Rattle.cp_base.specs.declared.limits.TheConstants.{MAX_NAMESPACE}

@@ -4,7 +4,7 @@ use Rattle.std.specs.List.{AllByRecursion}
 use Rattle.cp_base.specs.Answer.{Answer, answer_of}
 use Rattle.cp_base.specs.Buffer.{Buffer}
 use Rattle.cp_base.specs.Checks.{destination_of}
-use Rattle.cp_base.specs.Configuration.{Configuration, bare}
+use Rattle.cp_base.specs.Configuration.{bare}
 use Rattle.cp_base.specs.Region.{Region}
 use Rattle.cp_base.specs.Sharing.{source_region}
 use Rattle.cp_base.specs.declared.lists.CopySource.{CopySource}

@@ -1,6 +1,6 @@
-use Rattle.std.proofs.Common.{◌≡◌, ℕ, ◌+◌, ◌<◌, ◌≤◌, List, [], ◌++◌, length, map, set, slice_get, Some, refl, sym, ap, subst, ◌∙◌, arith, rules}
+use Rattle.std.proofs.Common.{◌≡◌, ℕ, List, [], ◌++◌, length, map, set, slice_get, Some, sym, ap, subst, ◌∙◌, arith}
 use Rattle.std.specs.List.{AllByRecursion}
-use Rattle.cp_base.specs.Checks.{destination_of, total_len}
+use Rattle.cp_base.specs.Checks.{destination_of}
 use Rattle.cp_base.specs.Configuration.{Configuration, bare}
 use Rattle.cp_base.specs.Region.{Region}
 use Rattle.cp_base.specs.Sharing.{source_region}

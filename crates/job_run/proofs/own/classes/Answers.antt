@@ -1,6 +1,5 @@
-use Rattle.std.proofs.Common.{◌≡◌, ℕ, ◌+◌, ◌<◌, ◌≤◌, true, false, length, sum, sym, ap, ◌∙◌, arith, rules}
+use Rattle.std.proofs.Common.{◌≡◌, ◌<◌, true, false, sum, ap, ◌∙◌, arith}
 use Rattle.cp_base.specs.declared.lists.MemRange.{MemRange}
-use Rattle.cp_base.specs.declared.replies.Piece.{Piece}
 use Rattle.bpf_model.specs.Memory.{allows_writing, range_at}
 use Rattle.device_model.specs.Builtin as builtin
 use Rattle.job_run.proofs.Ending.{affordable, marked-left, marks-are, none-left, none-told, plain-told, read_only-forbidden, read_write-allowed, refused-left, refused-told, second-range}

@@ -1,4 +1,4 @@
-use Rattle.std.proofs.Common.{◌≡◌, ℕ, ◌<◌, ◌^◌, ◌-◌, List, Option, length, take, unwrap_or, sym, ap, ◌∙◌, arith}
+use Rattle.std.proofs.Common.{◌≡◌, ℕ, List, Option, take, unwrap_or, ap, ◌∙◌, arith}
 use Rattle.device_model.specs.Builtin.{first_difference, window_at}
 use Rattle.job_run.specs.Windows.{piece_bytes}
 use Rattle.job_run.proofs.Marking.{difference-common, no-second, window-here}

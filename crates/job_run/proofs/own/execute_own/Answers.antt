@@ -1,4 +1,4 @@
-use Rattle.std.proofs.Common.{◌≡◌, ℕ, ◌+◌, ◌%◌, ◌==◌, ◌^◌, ◌-◌, ◌<◌, ◌≤◌, All, List, [], Some, count_by, length, sum, sum_by, unwrap_or, refl, sym, ap, subst, ◌∙◌, arith, rules}
+use Rattle.std.proofs.Common.{◌≡◌, ℕ, ◌<◌, ◌≤◌, All, List, [], length, refl, sym, ap, subst, ◌∙◌, rules}
 use Rattle.cp_base.specs.declared.limits.TheConstants.{MAX_NAMESPACE}
 use Rattle.cp_base.specs.declared.replies.Piece.{Piece}
 use Rattle.cp_base.specs.declared.replies.Status.TheVariants as status

@@ -1,5 +1,4 @@
-use Rattle.std.proofs.Common.{◌≡◌, ℕ, ◌+◌, ◌-◌, ◌≤◌, ◌<◌, List, ◌++◌, length, length-append, length-drop, length-take-le, min, sum, take, drop, sym, ap, ◌∙◌, arith, rules, w64, Fits}
-use Rattle.std.proofs.lemmas.List.{length-map}
+use Rattle.std.proofs.Common.{◌≡◌, ℕ, ◌+◌, ◌-◌, ◌<◌, List, ◌++◌, length, length-append, length-drop, length-take-le, min, sum, take, drop, sym, ap, ◌∙◌, arith, rules}
 use Rattle.cp_base.specs.Pieces.{patched}
 use Rattle.device_model.specs.Builtin.{marks_of}
 use Rattle.job_run.proofs.Marking.{length-marks, marks-next, patched-twice, sum-both, sum-marks, take-front}

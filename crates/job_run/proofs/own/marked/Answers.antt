@@ -1,4 +1,4 @@
-use Rattle.std.proofs.Common.{◌≡◌, ℕ, ◌<◌, ◌≤◌, List, [], Some, length, length-take-le, get_or, set, slice_get, sum, take, sym, ap, ◌∙◌, arith, rules}
+use Rattle.std.proofs.Common.{◌≡◌, ℕ, ◌<◌, List, [], Some, length, length-take-le, get_or, set, slice_get, sum, take, sym, ap, ◌∙◌, arith, rules}
 use Rattle.cp_base.specs.Pieces.{patched}
 use Rattle.cp_base.specs.declared.replies.Piece.{Piece}
 use Rattle.device_model.specs.Builtin.{marks_of, window_at}

@@ -1,4 +1,4 @@
-use Rattle.std.proofs.Common.{◌≡◌, ℕ, ◌+◌, ◌-◌, ◌<◌, ◌≤◌, true, false, List, ◌∷◌, length, get_or, take, drop, sym, ap, subst, ◌∙◌, arith, rules}
+use Rattle.std.proofs.Common.{◌≡◌, ◌+◌, ◌-◌, ◌<◌, true, false, List, ◌∷◌, length, get_or, take, drop, sym, ap, subst, ◌∙◌, arith, rules}
 use Rattle.cp_base.specs.Region.{Region, region_of}
 use Rattle.trail_model.specs.Pieces.{RegionBytes, carried, gathered}
 use Rattle.job_run.specs.Held.{IsHeld, holds}

@@ -1,4 +1,4 @@
-use Rattle.std.proofs.Common.{◌≡◌, ℕ, ◌+◌, ◌<◌, true, false, List, ◌∷◌, length, Some, slice_get, get_or, take, drop, suc, ap, subst, ◌∙◌, arith, rules}
+use Rattle.std.proofs.Common.{◌≡◌, ℕ, ◌+◌, ◌<◌, true, false, List, ◌∷◌, length, Some, slice_get, get_or, drop, suc, ap, subst, ◌∙◌, arith, rules}
 use Rattle.cp_base.specs.Region.{Region}
 use Rattle.job_run.specs.Held.{BeginsNowhere, BeginsOnce, begins}
 use Rattle.job_run.specs.Works.{piece_regions}

@@ -1,5 +1,4 @@
-use Rattle.std.proofs.Common.{◌≡◌, ◌<◌, List, [], ℕ, length, get_or, set, ap, ◌∙◌, rules}
-use Rattle.cp_base.specs.Region.{Region}
+use Rattle.std.proofs.Common.{◌≡◌, List, [], ℕ, get_or, set, ap, ◌∙◌, rules}
 use Rattle.cp_base.specs.declared.replies.Piece.{Piece}
 use Rattle.trail_model.specs.Pieces.{RegionBytes}
 use Rattle.job_run.specs.Works.{region_bytes}

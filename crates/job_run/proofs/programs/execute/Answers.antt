@@ -1,16 +1,16 @@
-use Rattle.std.proofs.Common.{◌≡◌, ℕ, ◌^◌, ◌<◌, ◌≤◌, pos, List, All, Option, length, map, sym, ap, subst, ◌∙◌, refl, arith, rules}
+use Rattle.std.proofs.Common.{◌≡◌, ℕ, ◌^◌, ◌<◌, pos, List, All, Option, length, sym, ap, subst, ◌∙◌, refl, arith}
 use Rattle.std.proofs.lemmas.List.{length-map}
 use Rattle.cp_base.specs.declared.lists.MemRange.{MemRange}
 use Rattle.cp_base.specs.declared.replies.Piece.{Piece}
 use Rattle.bpf_isa.specs.declared.end.End.{End}
 use Rattle.bpf_isa.specs.declared.insn.Insn.{Insn}
-use Rattle.bpf_model.specs.Memory.{bytes_from, read_write_of, windows_of}
+use Rattle.bpf_model.specs.Memory.{bytes_from, read_write_of}
 use Rattle.bpf_model.specs.Outcome.{outcome}
 use Rattle.bpf_model.specs.Step.{Program}
 use Rattle.bpf_model.specs.Walk.{instruction_at}
 use Rattle.bpf_decode.specs.Slots.{insn_at}
 use Rattle.bpf_exec.specs.Setting.{Describes, decoded_program}
-use Rattle.confined_view.specs.Touched.{Touched, window_bytes}
+use Rattle.confined_view.specs.Touched.{Touched}
 use Rattle.confined_view.specs.declared.window.Window.{Window}
 use Rattle.device_model.specs.Execution.{told_of}
 use Rattle.job_run.specs.Windows.{piece_bytes}

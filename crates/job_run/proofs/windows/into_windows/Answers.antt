@@ -1,4 +1,4 @@
-use Rattle.std.proofs.Common.{◌≡◌, ℕ, ◌+◌, ◌<◌, ◌≤◌, suc, Bool, List, [], ◌∷◌, ◌++◌, length, map, take, drop, get_or, set, sym, ap, ◌∙◌, arith, rules, vec_capacity}
+use Rattle.std.proofs.Common.{◌≡◌, ℕ, ◌<◌, List, [], ◌∷◌, ◌++◌, length, get_or, sym, ap, ◌∙◌, arith, rules}
 use Rattle.std.proofs.lemmas.List.{length-append, length-map, map-append, take_more}
 use Rattle.cp_base.specs.declared.lists.MemRange.{MemRange}
 use Rattle.cp_base.specs.declared.replies.Piece.{Piece}
@@ -6,7 +6,6 @@ use Rattle.bpf_model.specs.Memory.{allows_writing, read_write_of}
 use Rattle.confined_view.specs.Touched.{window_bytes, writable_windows}
 use Rattle.confined_view.specs.declared.window.Window.{Window}
 use Rattle.job_run.specs.Windows.{piece_bytes}
-use Rattle.job_run.specs.Works.{piece_regions}
 use Rattle.job_run.proofs.Items.{access-at, head-same, regions-set, rest-set}
 use Rattle.job_run.proofs.windows.into_windows.Goals as goal
 

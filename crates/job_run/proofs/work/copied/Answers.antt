@@ -1,6 +1,6 @@
-use Rattle.std.proofs.Common.{◌≡◌, List, [], ap}
+use Rattle.std.proofs.Common.{[], ap}
 use Rattle.cp_base.specs.Checks.{destination_of}
-use Rattle.trail_model.specs.Pieces.{RegionBytes, carried, gathered_joined}
+use Rattle.trail_model.specs.Pieces.{carried, gathered_joined}
 use Rattle.job_run.specs.Works.{pieces_with, region_bytes}
 use Rattle.job_run.specs.private.Kinds.{source_regions}
 use Rattle.job_run.proofs.Working.{answer_with, leaves-so}

@@ -1,9 +1,7 @@
-use Rattle.std.proofs.Common.{◌≡◌, List, [], ℕ, Option, Some, None, option_map, ap, sym, subst, ◌∙◌, rules}
-use Rattle.cp_base.specs.Answer.{Answer}
+use Rattle.std.proofs.Common.{◌≡◌, List, [], ℕ, Some, None, option_map, ap, sym, subst, ◌∙◌, rules}
 use Rattle.cp_base.specs.declared.lists.MemRange.{MemRange}
 use Rattle.cp_base.specs.declared.replies.Piece.{Piece}
 use Rattle.cp_base.specs.declared.replies.Status.{Status}
-use Rattle.bpf_isa.specs.declared.insn.Insn.{Insn}
 use Rattle.device_model.specs.Execution.{Executable, Loaded, OfDevice, outcome_on, told_of}
 use Rattle.trail_model.specs.LocalEffects.{ranges_with}
 use Rattle.trail_model.specs.Pieces.{RegionBytes}

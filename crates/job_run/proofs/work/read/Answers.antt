@@ -1,8 +1,5 @@
-use Rattle.std.proofs.Common.{◌≡◌, ◌∷◌, [], ◌++◌, List, ℕ, length, refl, ap, ◌∙◌, arith}
-use Rattle.cp_base.specs.Answer.{Answer}
+use Rattle.std.proofs.Common.{◌≡◌, ◌++◌, List, ℕ, length, refl, ap, ◌∙◌, arith}
 use Rattle.cp_base.specs.declared.replies.Piece.{Piece}
-use Rattle.cp_base.specs.declared.replies.Status.TheVariants as status
-use Rattle.trail_model.specs.Pieces.{RegionBytes}
 use Rattle.job_run.specs.Works.{region_bytes}
 use Rattle.job_run.proofs.Working.{answer_with, leaves-so, single}
 use Rattle.job_run.proofs.work.read.Goals as goal

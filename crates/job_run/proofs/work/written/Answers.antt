@@ -1,5 +1,4 @@
-use Rattle.std.proofs.Common.{◌≡◌, List, [], ℕ, map, ap}
-use Rattle.trail_model.specs.Pieces.{RegionBytes}
+use Rattle.std.proofs.Common.{[], map, ap}
 use Rattle.job_run.specs.Works.{region_bytes, with_bytes}
 use Rattle.job_run.proofs.Working.{answer_with, leaves-so}
 use Rattle.job_run.proofs.work.written.Goals as goal

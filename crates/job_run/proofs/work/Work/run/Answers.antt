@@ -1,8 +1,7 @@
-use Rattle.std.proofs.Common.{◌≡◌, ℕ, ◌*◌, ◌≤◌, List, [], ◌∷◌, length, map, option_map, Option, Some, replicate, refl, sym, ap, subst, ◌∙◌, arith, rules, vec_capacity}
+use Rattle.std.proofs.Common.{◌≡◌, ℕ, ◌*◌, ◌≤◌, List, length, map, option_map, Option, Some, refl, sym, ap, subst, ◌∙◌, rules, vec_capacity}
 use Rattle.cp_base.specs.Answer.{only_status}
 use Rattle.cp_base.specs.Buffer.{Buffer}
 use Rattle.cp_base.specs.Checks.{destination_of}
-use Rattle.cp_base.specs.declared.commands.Command.{Command}
 use Rattle.cp_base.specs.declared.lists.CopySource.{CopySource}
 use Rattle.cp_base.specs.declared.lists.MemRange.{MemRange}
 use Rattle.cp_base.specs.declared.region.SpaceId.{SpaceId}
