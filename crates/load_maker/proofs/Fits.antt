@@ -1,4 +1,4 @@
--- The lines of a load keep their limits, are sized, and are built.
+-- The lines of a load keep their limits and are sized.
 use Rattle.std.proofs.Common.{◌≡◌, ℕ, ◌+◌, ◌*◌, ◌/◌, ◌%◌, ◌^◌, ◌<◌, ◌≤◌, ◌==◌, Bool, true, false, ◌&&◌, leb, List, [], ◌∷◌, ◌++◌, refl, sym, ap, subst, ◌∙◌, arith}
 use Rattle.std.specs.Prelude.{if◌then◌else◌, nat_le, replicate, All}
 use Rattle.std.specs.List.{list_all}
@@ -11,7 +11,6 @@ use Rattle.cp_text.specs.HexText.{AreBytes}
 use Rattle.script_line.specs.Field.{Value, Count, Data, Copied}
 use Rattle.script_line.specs.Fits.{is_within, line_fits}
 use Rattle.script_line.specs.Line.{Line, send_line}
-use Rattle.script_line.specs.Reading.{is_built_kind}
 use Rattle.script_line.specs.Sized.{AreSized, IsSized, IsSizedLine, IsSizedSource}
 use Rattle.load_maker.specs.Load.{kind_command, same_bytes, take_line, word_command}
 
@@ -114,10 +113,3 @@ command_sized cid word low = (kind_sized cid (word % 8) (word / 8 % 65536) (word
 
 pub take_sized : (cid : ℕ) → cid < 16 → IsSizedLine (take_line cid)
 take_sized cid low = All-cons IsSized (Count cid) [] (omega arith) (All-nil IsSized)
-
--- ---- built commands
-
-pub command_built : (cid word : ℕ) → is_built_kind (send_line cid (word_command word)).kind ≡ true
-command_built cid word =
-    of_kinds (λ sent. is_built_kind (send_line cid sent).kind ≡ true) (word % 8) (word / 8 % 65536) (word / 2 ^ 32 % 256)
-    refl refl refl refl refl refl refl refl

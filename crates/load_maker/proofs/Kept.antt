@@ -13,16 +13,15 @@ use Rattle.script_line.specs.declared.kind.LineKind.TheVariants as line
 use Rattle.script_line.specs.declared.limits.TheConstants.{VERSION_1}
 use Rattle.script_line.specs.Fits.{line_fits}
 use Rattle.script_line.specs.Line.{Line, send_line}
-use Rattle.script_line.specs.Reading.{◌>>=◌, is_built_kind}
+use Rattle.script_line.specs.Reading.{◌>>=◌}
 use Rattle.script_line.specs.Sized.{AreSized, IsSizedLine}
 use Rattle.script_cmds.specs.declared.progress.Progress.{Progress}
 use Rattle.script_cmds.specs.declared.progress.Stage.TheVariants as stage
 use Rattle.script_cmds.specs.Fault.{after_lines, judged}
-use Rattle.script_cmds.specs.Kept.{are_built_lines}
 use Rattle.script_cmds.specs.Progress.{start}
 use Rattle.script_cmds.specs.Text.{numbers_line}
 use Rattle.load_maker.specs.Load.{device_lines, host_line, host_part, host_turns, load_lines, ready_lines, seed_word, take_line, turn_lines, turn_takes, word_command, work_lines}
-use Rattle.load_maker.proofs.Fits.{command_built, command_fits, command_sized, take_fits, take_sized}
+use Rattle.load_maker.proofs.Fits.{command_fits, command_sized, take_fits, take_sized}
 use Rattle.load_maker.proofs.Turns.{own_lines}
 
 -- ---- lines after lines

@@ -4,5 +4,5 @@ pub mod Lines
 pub mod Planned
 pub mod Printed
 pub mod Script
-pub mod Sound
+pub mod Sizes
 pub mod Turns

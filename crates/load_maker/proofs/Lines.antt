@@ -17,7 +17,7 @@ use Rattle.load_maker.specs.Load.{device_lines, host_line, host_part, host_turns
 use Rattle.load_maker.proofs.Fits.{command_sized, take_sized}
 use Rattle.load_maker.proofs.Planned.{not_true}
 use Rattle.load_maker.proofs.Printed.{lines_text-append}
-use Rattle.load_maker.proofs.Sound.{begun_sound}
+use Rattle.load_maker.proofs.Sizes.{begun_sized}
 use Rattle.load_maker.proofs.Turns.{own_lines}
 
 abbrev counts_ten : ℕ → ℕ
@@ -107,7 +107,7 @@ begun_counted : IsCounted begun
 unfolding begun
 begun_counted =
     lines_counted (device_lines ++ ready_lines ++ (numbers_line line.Phase [] ∷ []))
-    (tt, (tt, (tt, (tt, (tt, (tt, (tt, (tt, (tt, (tt, (tt, (tt, (tt, (tt, tt)))))))))))))) begun_sound.sized
+    (tt, (tt, (tt, (tt, (tt, (tt, (tt, (tt, (tt, (tt, (tt, (tt, (tt, (tt, tt)))))))))))))) begun_sized
 
 begun_few : length begun ≡ 14
 unfolding begun

@@ -14,13 +14,13 @@ use Rattle.script_cmds.specs.declared.item.HostPart.{HostPart}
 use Rattle.script_cmds.specs.declared.item.Phase as declared
 use Rattle.script_cmds.specs.declared.script.Script.{Script}
 use Rattle.script_cmds.specs.Fault.{after_lines, first_fault}
-use Rattle.script_cmds.specs.Kept.{KeepsOrderAndLimits, are_built_lines}
+use Rattle.script_cmds.specs.Kept.{KeepsOrderAndLimits}
 use Rattle.script_cmds.specs.Progress.{start}
 use Rattle.script_cmds.specs.Text.{item_line, item_lines, lines_of, lines_text, numbers_line, script_text}
 use Rattle.script_cmds.proofs.OneText.{accepted, one_text}
 use Rattle.load_maker.specs.Load.{device_lines, first_set, host_line, host_turns, load_lines, load_text, ready_lines, ready_slot, second_set, seed_word, take_line, turn_lines, whole_program, word_command}
 use Rattle.load_maker.proofs.Kept.{load_device, load_runs}
-use Rattle.load_maker.proofs.Sound.{load_sound}
+use Rattle.load_maker.proofs.Sizes.{load_sized}
 
 -- a command is sent
 abbrev pub sending : ℕ → Command → Item
@@ -113,10 +113,7 @@ load_script-lines seed n =
 -- ---- it is a script that is read
 
 pub script_sized : (seed n : ℕ) → AreSized (lines_of (load_script seed n))
-script_sized seed n = subst AreSized (sym (load_script-lines seed n)) (load_sound seed n).sized
-
-script_built : (seed n : ℕ) → are_built_lines (lines_of (load_script seed n)) ≡ true
-script_built seed n = ap are_built_lines (load_script-lines seed n) ∙ (load_sound seed n).built
+script_sized seed n = subst AreSized (sym (load_script-lines seed n)) (load_sized seed n)
 
 pub script_kept : (seed n : ℕ) → n ≤ 8192 → KeepsOrderAndLimits (load_script seed n)
 script_kept seed n bound = ap is_ok (ap (after_lines start) (load_script-lines seed n) ∙ (load_runs seed n bound).runs)
@@ -124,7 +121,7 @@ script_kept seed n bound = ap is_ok (ap (after_lines start) (load_script-lines s
 pub load_accepted : (seed n : ℕ) → n ≤ 8192 → first_fault (load_text seed n) ≡ None
 load_accepted seed n bound =
     ap (λ (ls : List Line). first_fault (lines_text ls)) (sym (load_script-lines seed n))
-    ∙ accepted (load_script seed n) (script_sized seed n) (script_built seed n) (script_kept seed n bound)
+    ∙ accepted (load_script seed n) (script_sized seed n) (script_kept seed n bound)
 
 pub same_lines : (seed n : ℕ) (script : Script) → AreSized (lines_of script) → script_text script ≡ load_text seed n
     → lines_of script ≡ load_lines seed n

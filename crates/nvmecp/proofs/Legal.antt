@@ -1,34 +1,35 @@
 -- The commands of a plan in the order of its text, and that carrying them out so gives a legal history.
-use Rattle.std.proofs.Common.{◌≡◌, ℕ, ◌+◌, ◌==◌, cond, IsTrue, List, [], ◌∷◌, ◌++◌, get_or, map, sym, refl, ap, subst, ◌∙◌, arith}
+use Rattle.std.proofs.Common.{◌≡◌, ℕ, ◌+◌, ◌==◌, cond, List, [], ◌∷◌, ◌++◌, get_or, map, sym, refl, ap, subst, ◌∙◌, arith, inl, inr}
 use Rattle.std.specs.Prelude.{AllPairs, IsPermutation, count_by}
 use Rattle.std.specs.List.{AllByRecursion, concat}
 use Rattle.std.proofs.Math.ListN.{get_or-map}
-use Rattle.std.proofs.lemmas.Bool.{false≢true}
 use Rattle.std.proofs.lemmas.List.{map-append, length-map}
 use Rattle.std.proofs.lemmas.List.Sums.{sum_by-cons}
 use Rattle.std.proofs.lemmas.List.Sorted.{IsPermutation-refl}
-use Rattle.built_commands.specs.Built.{is_built}
 use Rattle.cp_base.specs.Answer.{Answer}
 use Rattle.cp_base.specs.Configuration.{Configuration}
 use Rattle.cp_base.specs.Contents.{Contents, bytes_in}
 use Rattle.cp_base.specs.declared.commands.Command.{Command}
 use Rattle.cp_base.specs.declared.commands.Command.TheVariants as command
+use Rattle.cp_base.specs.declared.replies.Status.{Status}
+use Rattle.cp_base.specs.declared.replies.Status.TheVariants as status
 use Rattle.script_cmds.specs.declared.item.Item.{Item}
 use Rattle.script_cmds.specs.declared.item.Item.TheVariants as item
 use Rattle.script_cmds.specs.declared.item.HostPart.{HostPart}
 use Rattle.script_cmds.specs.declared.item.Phase.{Phase}
 use Rattle.script_cmds.specs.declared.item.Show.{Show}
+use Rattle.device_model.specs.Execution.{Outcome}
 use Rattle.device_model.specs.State.{State, opening}
-use Rattle.device_model.specs.Step.{DeviceStep}
+use Rattle.device_model.specs.Step.{DeviceStep, outcome_of}
 use Rattle.history_model.specs.Entry.{Entry}
-use Rattle.history_model.specs.Legal.{IsLegal, Replays, after_entry, after_history}
+use Rattle.history_model.specs.Legal.{ArePaired, HasWithdrawn, IsLegal, Replays, StandBehind, after_entry, after_history}
 use Rattle.history_model.specs.Sent.{Sent, Waiting, TakenBefore, next_ordinal, sends_of, sends_of_items, sends_of_parts, sends_of_phases}
 use Rattle.history_model.specs.Text.{entries_text, shown_text, shows_text}
 use Rattle.history_model.proofs.Order.{file-order}
 use Rattle.history_model.proofs.Settled.{settled}
-use Rattle.history_model.proofs.Withdrawn.{IsDone, IsNoAbort, none_paired}
+use Rattle.history_model.proofs.Withdrawn.{IsDone}
 use Rattle.nvmecp.specs.Lines.{place_line, place_lines, shown_lines}
-use Rattle.nvmecp.specs.Place.{Place, CarriesOut, count_of, place_of, places_of_items, places_of_parts, places_of_phases, with_part}
+use Rattle.nvmecp.specs.Place.{Place, CarriesOut, IsCarried, count_of, place_of, places_of_items, places_of_parts, places_of_phases, with_part}
 
 -- The places of a plan's commands are those of its sends.
 
@@ -89,10 +90,15 @@ sents_back c s [] answers last h = refl
 sents_back c s (sent ∷ sents) [] last h = absurd h
 sents_back c s (sent ∷ sents) (answer ∷ answers) last h = ap (λ (rest : List Sent). sent ∷ rest) (sents_back c h.0 sents answers last h.2)
 
+-- a command that is carried out is one step of the sequential device
+device_step : (c : Configuration) (s : State) (cmd : Command) (answer : Answer) (next : State) → IsCarried c s cmd answer next → DeviceStep c s cmd answer next
+device_step c s cmd answer next (record { step = inl done }) = inl done
+device_step c s cmd answer next (record { step = inr no_memory }) = inr (inl no_memory)
+
 -- the state after the first command
-first_settled : (c : Configuration) (s : State) (sent : Sent) (answer : Answer) (next : State) → DeviceStep c s sent.command answer next
+first_settled : (c : Configuration) (s : State) (sent : Sent) (answer : Answer) (next : State) → IsCarried c s sent.command answer next
     → next ≡ after_entry c s (record { sent = sent; answer = answer })
-first_settled c s sent answer next step = settled c s sent.command answer next step
+first_settled c s sent answer next carried = settled c s sent.command answer next (device_step c s sent.command answer next carried)
 
 -- the entries are steps of the device, one after the other
 replayed : (c : Configuration) (s : State) (sents : List Sent) (answers : List Answer) (last : State) → CarriesOut c s (map place_of sents) answers last
@@ -101,8 +107,8 @@ replayed c s [] answers last h = tt
 replayed c s (sent ∷ sents) [] last h = absurd h
 replayed c s (sent ∷ sents) (answer ∷ answers) last h =
     let after : State = after_entry c s (record { sent = sent; answer = answer }) in
-    let is : h.0 ≡ after = first_settled c s sent answer h.0 h.1.step in (
-      subst (λ (x : State). DeviceStep c s sent.command answer x) is h.1.step,
+    let is : h.0 ≡ after = first_settled c s sent answer h.0 h.1 in (
+      subst (λ (x : State). DeviceStep c s sent.command answer x) is (device_step c s sent.command answer h.0 h.1),
       subst (λ (x : State). Replays c x (entries_of sents answers)) is (replayed c h.0 sents answers last h.2),
     )
 
@@ -113,7 +119,7 @@ last_is c s [] [] last h = sym h
 last_is c s [] (answer ∷ answers) last h = absurd h
 last_is c s (sent ∷ sents) [] last h = absurd h
 last_is c s (sent ∷ sents) (answer ∷ answers) last h =
-    let is : h.0 ≡ after_entry c s (record { sent = sent; answer = answer }) = first_settled c s sent answer h.0 h.1.step in
+    let is : h.0 ≡ after_entry c s (record { sent = sent; answer = answer }) = first_settled c s sent answer h.0 h.1 in
     ap (λ (x : State). after_history c x (entries_of sents answers)) (sym is) ∙ last_is c h.0 sents answers last h.2
 
 -- the lines are the history's text
@@ -134,16 +140,34 @@ pairs_of_entries R entries all = λ i j d before below.
     let pair : R (get_or (map f entries) i (f d)) (get_or (map f entries) j (f d)) = all i j (f d) before (omega (arith, below, length-map entries f)) in
     subst (λ (x : Sent). R (f (get_or entries i d)) x) (get_or-map f entries j d) (subst (λ (x : Sent). R x (get_or (map f entries) j (f d))) (get_or-map f entries i d) pair)
 
--- a command that this version carries out is no Abort
-no_abort : (sent : Sent) → IsTrue (is_built sent.command) → IsNoAbort sent
-no_abort sent built = λ cid e. let none : IsTrue (is_built (command.Abort cid)) = subst (λ (cmd : Command). IsTrue (is_built cmd)) e built in false≢true none
+-- an entry is that of no Abort that has withdrawn a command
+abbrev WithdrawsNone : Entry → Type 0
+WithdrawsNone entry = HasWithdrawn entry → ⊥
 
--- none of the commands is an Abort
-no_aborts : (c : Configuration) (s : State) (sents : List Sent) (answers : List Answer) (last : State) → CarriesOut c s (map place_of sents) answers last
-    → AllByRecursion (λ (entry : Entry). IsNoAbort entry.sent) (entries_of sents answers)
-no_aborts c s [] answers last h = tt
-no_aborts c s (sent ∷ sents) [] last h = tt
-no_aborts c s (sent ∷ sents) (answer ∷ answers) last h = (no_abort sent h.1.built, no_aborts c h.0 sents answers last h.2)
+other_status : status.Ok ≡ status.NoMemory → ⊥
+other_status is = cc
+
+-- an Abort that is carried out one after the other is answered 1
+abort_told : (c : Configuration) (s : State) (cid : ℕ) (answer : Answer) (next : State) → IsCarried c s (command.Abort cid) answer next
+    → answer.status ≡ status.Ok → answer.result ≡ 0 → ⊥
+abort_told c s cid answer next (record { step = inl done }) ok none =
+    let told : 1 ≡ answer.result = ap (λ (o : Outcome). o.answer.result) done in
+    absurd (omega (arith, told, none))
+abort_told c s cid answer next (record { step = inr no_memory }) ok none =
+    let told : answer.status ≡ status.NoMemory = ap (λ (a : Answer). a.status) no_memory.told in
+    other_status (sym ok ∙ told)
+
+withdraws_none : (c : Configuration) (s : State) (sent : Sent) (answer : Answer) (next : State) → IsCarried c s sent.command answer next
+    → WithdrawsNone (record { sent = sent; answer = answer })
+withdraws_none c s sent answer next carried by =
+    abort_told c s by.cid answer next (subst (λ (cmd : Command). IsCarried c s cmd answer next) by.abort carried) by.told by.result
+
+-- none of the commands is an Abort that has withdrawn another
+none_withdraws : (c : Configuration) (s : State) (sents : List Sent) (answers : List Answer) (last : State) → CarriesOut c s (map place_of sents) answers last
+    → AllByRecursion WithdrawsNone (entries_of sents answers)
+none_withdraws c s [] answers last h = tt
+none_withdraws c s (sent ∷ sents) [] last h = tt
+none_withdraws c s (sent ∷ sents) (answer ∷ answers) last h = (withdraws_none c s sent answer h.0 h.1, none_withdraws c h.0 sents answers last h.2)
 
 -- and none was withdrawn
 none_withdrawn : (c : Configuration) (s : State) (sents : List Sent) (answers : List Answer) (last : State) → CarriesOut c s (map place_of sents) answers last
@@ -151,6 +175,19 @@ none_withdrawn : (c : Configuration) (s : State) (sents : List Sent) (answers : 
 none_withdrawn c s [] answers last h = tt
 none_withdrawn c s (sent ∷ sents) [] last h = tt
 none_withdrawn c s (sent ∷ sents) (answer ∷ answers) last h = (h.1.done, none_withdrawn c h.0 sents answers last h.2)
+
+-- so there is no pair
+unpaired_behind : (before : Entry) (entries : List Entry) → WithdrawsNone before → AllByRecursion WithdrawsNone entries → AllByRecursion IsDone entries
+    → StandBehind before entries
+unpaired_behind before [] other all done = other
+unpaired_behind before (entry ∷ entries) other all done = (
+  record { aborted = λ is. absurd (done.0 is); follows = λ by. absurd (other by) },
+  unpaired_behind entry entries all.0 all.1 done.1,
+)
+
+unpaired : (entries : List Entry) → AllByRecursion WithdrawsNone entries → AllByRecursion IsDone entries → ArePaired entries
+unpaired [] all done = tt
+unpaired (entry ∷ entries) all done = (done.0, unpaired_behind entry entries all.0 all.1 done.1)
 
 -- a plan's commands carried out in the order of its text have a legal history
 pub legal : (c : Configuration) (plan : List Phase) (answers : List Answer) (last : State) → CarriesOut c (opening c) (map place_of (sends_of plan)) answers last
@@ -163,5 +200,5 @@ legal c plan answers last h =
       each_once = subst (λ (xs : List Sent). IsPermutation (map (λ (entry : Entry). entry.sent) (entries_of sents answers)) xs) back (IsPermutation-refl _);
       in_order = pairs_of_entries R (entries_of sents answers) (subst (λ (xs : List Sent). AllPairs R xs) (sym back) (file-order plan));
       replays = replayed c (opening c) sents answers last h;
-      paired = none_paired (entries_of sents answers) (no_aborts c (opening c) sents answers last h) (none_withdrawn c (opening c) sents answers last h);
+      paired = unpaired (entries_of sents answers) (none_withdraws c (opening c) sents answers last h) (none_withdrawn c (opening c) sents answers last h);
     }

@@ -1,4 +1,3 @@
-pub mod BuiltSends
 pub mod Counts
 pub mod Endings
 pub mod Fronts

@@ -1,14 +1,13 @@
 -- Commands carried out one more.
-use Rattle.std.proofs.Common.{◌≡◌, ℕ, suc, ◌+◌, ◌<◌, ◌≤◌, arith, List, [], ◌∷◌, ◌++◌, length, get_or, take, drop, IsTrue, sym, refl, ap, subst, ◌∙◌, add-one, drop-cons}
+use Rattle.std.proofs.Common.{◌≡◌, ℕ, suc, ◌+◌, ◌<◌, ◌≤◌, arith, List, [], ◌∷◌, ◌++◌, length, get_or, take, sym, refl, ap, subst, ◌∙◌}
 use Rattle.std.proofs.lemmas.List.{take_more, map-append}
 use Rattle.std.proofs.lemmas.List.Elements.{All-append, All-cons}
 use Rattle.cp_base.specs.declared.limits.TheConstants.{MAX_TRANSFER}
 use Rattle.cp_base.specs.declared.replies.Reply.{Reply}
-use Rattle.built_commands.specs.Built.{is_built}
 use Rattle.cp_base.specs.Answer.{Answer}
 use Rattle.cp_base.specs.Configuration.{Configuration}
 use Rattle.device_model.specs.State.{State}
-use Rattle.nvmecp.specs.Place.{Place, AreBuilt, CarriesOut, IsCarried}
+use Rattle.nvmecp.specs.Place.{Place, CarriesOut, IsCarried}
 use Rattle.nvmecp.specs.Shown.{AreShort, places_of}
 use Rattle.nvmecp.specs.declared.in_order.Placed.{Placed}
 
@@ -18,12 +17,6 @@ CarriesOut-more c s [] [] mid p answer next e step = (next, subst (λ (x : State
 CarriesOut-more c s (q ∷ places) (a ∷ answers) mid p answer next h step = (h.0, h.1, CarriesOut-more c h.0 places answers mid p answer next h.2 step)
 CarriesOut-more c s [] (a ∷ answers) mid p answer next h step = absurd h
 CarriesOut-more c s (q ∷ places) [] mid p answer next h step = absurd h
-
--- what holds of the commands from a place on holds of the one there and of those after it
-pub AreBuilt-at : (placed : List Placed) (i : ℕ) (p : Placed) → i < length placed → p ≡ get_or placed i p → AreBuilt (places_of (drop i placed)) → IsTrue (is_built p.command.value) × AreBuilt (places_of (drop (i + 1) placed))
-AreBuilt-at placed i p h e built =
-    let cut : drop i placed ≡ p ∷ drop (i + 1) placed = drop-cons placed i p h ∙ ap (λ (q : Placed). q ∷ drop (suc i) placed) (sym e) ∙ ap (λ (j : ℕ). p ∷ drop j placed) (sym (add-one i)) in
-    subst (λ (rest : List Placed). AreBuilt (places_of rest)) cut built
 
 -- one more command
 pub places_of-more : (placed : List Placed) (i : ℕ) (p : Placed) → i < length placed → p ≡ get_or placed i p → places_of (take (i + 1) placed) ≡ places_of (take i placed) ++ record { host = p.host; ordinal = p.ordinal; cid = p.cid; command = p.command.value } ∷ []

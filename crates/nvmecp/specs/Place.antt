@@ -1,7 +1,6 @@
 -- Commands by their names, and what a device answers to them one by one. This project's own.
-use Rattle.std.specs.Prelude.{◌≡◌, ◌≢◌, ℕ, ◌+◌, ◌==◌, IsTrue, List, [], ◌∷◌, ◌++◌, count_by}
+use Rattle.std.specs.Prelude.{◌≡◌, ◌≢◌, ℕ, ◌+◌, ◌==◌, ◌⊎◌, List, [], ◌∷◌, ◌++◌, count_by}
 use Rattle.cp_base.specs.Answer.{Answer}
-use Rattle.built_commands.specs.Built.{is_built}
 use Rattle.cp_base.specs.Configuration.{Configuration}
 use Rattle.cp_base.specs.declared.commands.Command.{Command}
 use Rattle.cp_base.specs.declared.replies.Status.TheVariants as status
@@ -10,7 +9,7 @@ use Rattle.script_cmds.specs.declared.item.Item.TheVariants as item
 use Rattle.script_cmds.specs.declared.item.HostPart.{HostPart}
 use Rattle.script_cmds.specs.declared.item.Phase.{Phase}
 use Rattle.device_model.specs.State.{State}
-use Rattle.device_model.specs.Step.{DeviceStep}
+use Rattle.device_model.specs.Step.{FindsNoMemory, outcome_of}
 use Rattle.history_model.specs.Sent.{Sent}
 
 -- a command of a plan by its name, its identifier and itself
@@ -49,16 +48,14 @@ abbrev pub places_of_phases : List Place → List Phase → List Place
 places_of_phases earlier [] = earlier
 places_of_phases earlier (phase ∷ phases) = places_of_phases (places_of_parts earlier phase.hosts) phases
 
--- each command is one that this version carries out
-abbrev pub AreBuilt : List Place → Type 0
-AreBuilt [] = Unit {0}
-AreBuilt (p ∷ places) = IsTrue (is_built p.command) × AreBuilt places
+-- a command is done or refused, or finds no memory
+abbrev pub IsAnswered : Configuration → State → Command → Answer → State → Type 0
+IsAnswered c s cmd answer next = (outcome_of c s cmd ≡ record { answer = answer; next = next }) ⊎ FindsNoMemory c s cmd answer next
 
--- a device carries out a command with an answer, and goes on to the next state: the command is one of those
--- that this version carries out, and is not withdrawn
+-- a device carries out a command with an answer, and goes on to the next state: the command is not withdrawn, and as
+-- an Abort it withdraws no other
 pub record IsCarried (c : Configuration) (s : State) (cmd : Command) (answer : Answer) (next : State) : Type 0 where
-  pub built : IsTrue (is_built cmd)
-  pub step : DeviceStep c s cmd answer next
+  pub step : IsAnswered c s cmd answer next
   pub done : answer.status ≢ status.Aborted
 
 -- the device carries out these commands one after the other with these answers, from one state to another

@@ -3,7 +3,7 @@ ghost use Rattle.std.specs.Prelude.{◌≡◌, ◌+◌, ◌^◌, ◌<◌, ◌≤
 ghost use Rattle.cp_base.specs.Answer.{answer_of};
 ghost use Rattle.history_model.specs.Sent.{sends_of};
 ghost use Rattle.nvmecp.specs.Finished.{IsFinished};
-ghost use Rattle.nvmecp.specs.Place.{places_of_items, places_of_parts, places_of_phases, with_part, place_of, AreBuilt, CarriesOut};
+ghost use Rattle.nvmecp.specs.Place.{places_of_items, places_of_parts, places_of_phases, with_part, CarriesOut};
 ghost use Rattle.nvmecp.specs.Shown.{AreShort, KnowsCounts, places_of};
 
 use cp_base::{Bytes, Command, Config, NoMemory, Reply};
@@ -107,7 +107,6 @@ fn carry_out(
     device: &mut SeqDevice,
     placed: &[Placed],
 ) -> Result<Vec<Reply>, NoMemory>
-    requires { AreBuilt (places_of placed.now) }
     ensures replies { IfOk result (λ replies. CarriesOut device.old.config device.old.state (places_of placed.now)
         (map answer_of replies.items) device.new.state) }
     ensures short { IfOk result (λ replies. AreShort replies.items) }
@@ -133,7 +132,6 @@ pub struct Finished {
 /// of the line buffer too.
 pub fn finish(alloc: Global, config: &Config, plan: &Plan) -> Result<Finished, NoMemory>
     requires commands { plan.now.commands ≡ length (sends_of plan.now.phases) }
-    requires built { AreBuilt (map place_of (sends_of plan.now.phases)) }
     ensures { IfOk result (λ finished. IsFinished config.now plan.now.phases finished) }
 {
     let mut line = Bytes::new(alloc);

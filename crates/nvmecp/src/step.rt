@@ -1,7 +1,7 @@
 // The word `step`: a script is carried out and its history printed.
-ghost use Rattle.std.specs.Prelude.{◌≡◌, ◌≢◌, ◌≤◌, ◌⊎◌, Ok, IsTrue, length};
+ghost use Rattle.std.specs.Prelude.{◌≡◌, ◌≢◌, ◌≤◌, ◌⊎◌, Ok, length};
 ghost use Rattle.script_line.specs.Sized.{AreSized};
-ghost use Rattle.script_cmds.specs.Kept.{KeepsOrderAndLimits, are_built};
+ghost use Rattle.script_cmds.specs.Kept.{KeepsOrderAndLimits};
 ghost use Rattle.script_cmds.specs.Text.{lines_of};
 ghost use Rattle.history_model.specs.Plain.{plain_phase, plain_phases};
 ghost use Rattle.history_model.specs.Plan.{plan_of};
@@ -23,10 +23,8 @@ use std::alloc::Global;
 // Carries out a plan and prints its history.
 fn carry_out<K: Sink>(alloc: Global, script: &Script, plan: &Plan, sink: &mut K) -> Ending
     requires commands { plan.now.commands ≡ length (sends_of plan.now.phases) }
-    requires sends { sends_of plan.now.phases ≡ sends_of script.now.phases }
     requires planned { meant plain_phase (plan_of script.now) ≡ Ok (plain_phases plan.now.phases) }
     requires given { (given : _) → plan_of script.now ≡ Ok given → sends_of given ≡ sends_of plan.now.phases }
-    requires built { IsTrue (are_built script.now) }
     requires kept { KeepsOrderAndLimits script.now }
     requires sized { AreSized (lines_of script.now) }
     ensures ends { EndsAnswered (IsPrintOf script.now) K.held K.faults sink.old sink.new result }

@@ -49,7 +49,7 @@ fn given(alloc: Global, words: &str, input: &str, output: &str) -> Option<(u8, b
 }
 
 // What an input gives: the status, and the text that is written.
-const CASES: [(&str, u8, &str); 32] = [
+const CASES: [(&str, u8, &str); 35] = [
     (
         WRITE,
         0,
@@ -180,11 +180,26 @@ const CASES: [(&str, u8, &str); 32] = [
         2,
         "line 8: Number\n",
     ),
-    // What is not built yet is no word.
+    // Aborts that come after what they name was carried out, and that name nothing.
+    (
+        "nvmecp 1 block=512 depth=16 budget=1000\nmem 1 bytes=16\nphase\nhost 1\nsend 1 memfill ns=1 at=0 len=4 value=1\nsend 2 abort cid=1\nshow mem 1 at=0 len=4\n",
+        0,
+        "#1 h1 n1 c1 memfill Ok r=0 d=\n#2 h1 n2 c2 abort Ok r=1 d=\nshow mem 1 at=0 len=4 d=01010101\n",
+    ),
     (
         "nvmecp 1 block=512 depth=1 budget=1\nmem 1 bytes=16\nphase\nhost 1\nsend 1 abort cid=1\n",
+        0,
+        "#1 h1 n1 c1 abort Ok r=1 d=\n",
+    ),
+    (
+        "nvmecp 1 block=512 depth=1 budget=1\nmem 1 bytes=16\nphase\nhost 1\nsend 1 abort cid=1:2\n",
         2,
-        "line 5: Word\n",
+        "line 5: Number\n",
+    ),
+    (
+        "nvmecp 1 block=512 depth=1 budget=1\nmem 1 bytes=16\nphase\nhost 1\nsend 1 abort cid=65536\n",
+        2,
+        "line 5: Limit\n",
     ),
     // Sets take the least free number.
     (

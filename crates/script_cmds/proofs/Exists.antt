@@ -34,7 +34,7 @@ use Rattle.script_cmds.specs.declared.progress.Stage.TheVariants.{AtStart, After
 use Rattle.script_cmds.specs.declared.script.Script.{Script}
 use Rattle.script_cmds.specs.declared.fault.ScriptFault.{ScriptFault}
 use Rattle.script_cmds.specs.Fault.{after_lines, fault_at, fault_from, fault_or, first_fault, judged, read_line}
-use Rattle.script_cmds.specs.Kept.{IsScriptText, are_built_lines}
+use Rattle.script_cmds.specs.Kept.{IsScriptText}
 use Rattle.script_cmds.specs.Progress.{is_start, space_of, start}
 use Rattle.script_cmds.specs.Text.{configuration_lines, item_line, item_lines, lines_of, lines_text, numbers_line, part_lines, phase_lines, show_line, show_lines}
 use Rattle.script_cmds.specs.private.Drafts.{Drafted, IsDraft, draft_lines, open_lines, open_part_lines}
@@ -181,7 +181,7 @@ drafts d n text (next ∷ texts) h e =
     let l = bind_ok (line_of text) (judged d.progress) r.0 r.1 in
     let s = line_says text l.0 l.1 in
     let k = keep l.0.kind l.0.values d s.line.shape in
-    let a = adds d k.kept l.0 r.0 h l.2 s.line s.built k.stored in
+    let a = adds d k.kept l.0 r.0 h l.2 s.line k.stored in
     let on = drafts (record k.kept { progress = r.0 }) (n + 1) next texts a.draft r.2 in
     record {
       whole = on.whole;
@@ -197,7 +197,7 @@ nothing = record { progress = start; phases = []; hosts = []; items = []; shows 
 
 nothing_yet : IsDraft nothing
 unfolding nothing
-nothing_yet = record { tidy = (refl, refl, refl, refl); limits = header_keeps 512 1 1 refl (omega arith) (omega arith) (omega arith) (omega arith); counted = refl; built = refl; sized = All-nil IsSizedLine }
+nothing_yet = record { tidy = (refl, refl, refl, refl); limits = header_keeps 512 1 1 refl (omega arith) (omega arith) (omega arith) (omega arith); counted = refl; sized = All-nil IsSizedLine }
 
 script_of : Drafted → Script
 script_of d = record { config = d.progress.config; phases = ended_phases d.progress.stage d.phases d.hosts d.items; shows = d.shows }
@@ -219,5 +219,4 @@ some_script text e =
       spelled = ap lines_text same ∙ r.text ∙ ap (joined_by 10) (sym p.2) ∙ joined_again 10 text;
       sized = subst AreSized (sym same) r.draft.sized;
       kept = ap (λ (ls : List Line). is_ok (after_lines start ls)) same ∙ ap is_ok r.draft.counted;
-      built = ap are_built_lines same ∙ r.draft.built;
     }

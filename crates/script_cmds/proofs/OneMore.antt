@@ -7,7 +7,7 @@ use Rattle.script_line.specs.declared.fault.TextCause.{TextCause}
 use Rattle.script_line.specs.declared.kind.LineKind.{LineKind}
 use Rattle.script_line.specs.declared.kind.LineKind.TheVariants as line
 use Rattle.script_line.specs.Line.{Line, line_text}
-use Rattle.script_line.specs.Reading.{◌>>=◌, is_built_kind}
+use Rattle.script_line.specs.Reading.{◌>>=◌}
 use Rattle.script_line.specs.Sized.{AreSized, IsSizedLine}
 use Rattle.script_cmds.specs.declared.item.Item.{Item}
 use Rattle.script_cmds.specs.declared.item.HostPart.{HostPart}
@@ -15,7 +15,6 @@ use Rattle.script_cmds.specs.declared.item.Phase as declared
 use Rattle.script_cmds.specs.declared.item.Show.{Show}
 use Rattle.script_cmds.specs.declared.progress.Progress.{Progress}
 use Rattle.script_cmds.specs.Fault.{judged, after_lines}
-use Rattle.script_cmds.specs.Kept.{are_built_lines}
 use Rattle.script_cmds.specs.Text.{numbers_line, size_lines, item_line, item_lines, part_lines, phase_lines, show_line, show_lines, lines_text}
 use Rattle.script_cmds.specs.private.Drafts.{IsZeroFrom}
 
@@ -36,14 +35,6 @@ after_one_more p (m ∷ ms) l q s e j = step_after (judged p m) ms l q s (λ p' 
 pub text_one_more : (ls : List Line) (l : Line) → lines_text (ls ++ l ∷ []) ≡ lines_text ls ++ (line_text l ++ 10 ∷ [])
 text_one_more [] l = refl
 text_one_more (m ∷ ms) l = ap (λ (t : List ℕ). line_text m ++ 10 ∷ t) (text_one_more ms l) ∙ sym (append_assoc (line_text m) (10 ∷ lines_text ms) (line_text l ++ 10 ∷ []))
-
-built_by : (b old new : Bool) → (old ≡ true → new ≡ true) → (b && old) ≡ true → (b && new) ≡ true
-built_by true old new h e = h e
-built_by false old new h e = absurd cc
-
-pub built_one_more : (ls : List Line) (l : Line) → are_built_lines ls ≡ true → is_built_kind l.kind ≡ true → are_built_lines (ls ++ l ∷ []) ≡ true
-built_one_more [] l e b = rw b refl
-built_one_more (m ∷ ms) l e b = built_by (is_built_kind m.kind) (are_built_lines ms) (are_built_lines (ms ++ l ∷ [])) (λ h. built_one_more ms l h b) e
 
 pub sized_one_more : (ls : List Line) (l : Line) → AreSized ls → IsSizedLine l → AreSized (ls ++ l ∷ [])
 sized_one_more ls l h s = All-append IsSizedLine ls (l ∷ []) h (All-cons IsSizedLine l [] s (All-nil IsSizedLine))

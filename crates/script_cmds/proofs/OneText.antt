@@ -13,7 +13,7 @@ use Rattle.script_line.specs.declared.kind.SpaceKind.{SpaceKind}
 use Rattle.script_line.specs.declared.kind.SpaceKind.TheVariants as space_kind
 use Rattle.script_line.specs.Field.{IsShaped, Value}
 use Rattle.script_line.specs.Line.{Line, fields_of, line_text}
-use Rattle.script_line.specs.Reading.{◌>>=◌, is_built_kind}
+use Rattle.script_line.specs.Reading.{◌>>=◌}
 use Rattle.script_line.specs.Sized.{AreSized, IsLine, IsSizedLine}
 use Rattle.script_line.proofs.ReadAgain.{line_again, line_lacks, one_line}
 use Rattle.script_line.proofs.Sends.{send_shape}
@@ -27,10 +27,9 @@ use Rattle.script_cmds.specs.declared.progress.Stage.{Stage}
 use Rattle.script_cmds.specs.declared.progress.Stage.TheVariants.{AtStart}
 use Rattle.script_cmds.specs.declared.script.Script.{Script}
 use Rattle.script_cmds.specs.Fault.{judged, read_line, after_lines, fault_or, fault_from, first_fault}
-use Rattle.script_cmds.specs.Kept.{KeepsOrderAndLimits, are_built_lines}
+use Rattle.script_cmds.specs.Kept.{KeepsOrderAndLimits}
 use Rattle.script_cmds.specs.Progress.{start, is_start, is_in_part, is_in_order, advanced}
 use Rattle.script_cmds.specs.Text.{configuration_lines, item_lines, lines_of, lines_text, numbers_line, part_lines, phase_lines, region_line, script_text, show_lines, size_lines}
-use Rattle.script_cmds.proofs.Keeping.{both_true}
 use Rattle.script_cmds.proofs.Puts.{passed}
 use Rattle.script_cmds.proofs.WholeTexts.{fault_two}
 
@@ -140,30 +139,26 @@ fault_next : (p : Progress) (n : ℕ) (text : List ℕ) (ls : List Line) → fau
 fault_next p n text [] = fault_two p n text [] []
 fault_next p n text (m ∷ ms) = fault_two p n text (line_text m) (map line_text ms ++ [] ∷ [])
 
-fault_line : (p : Progress) (n : ℕ) (l : Line) (ls : List Line) → IsLine l → is_built_kind l.kind ≡ true → is_ok (after_lines p (l ∷ ls)) ≡ true
+fault_line : (p : Progress) (n : ℕ) (l : Line) (ls : List Line) → IsLine l → is_ok (after_lines p (l ∷ ls)) ≡ true
     → ((q : Progress) → is_start q.stage ≡ false → is_ok (after_lines q ls) ≡ true → fault_from q (n + 1) (map line_text ls ++ [] ∷ []) ≡ None)
     → fault_from p n (line_text l ∷ (map line_text ls ++ [] ∷ [])) ≡ None
-fault_line p n l ls h b ok more =
+fault_line p n l ls h ok more =
     let o = ok_then (judged p l) (λ q. after_lines q ls) ok in
     let s = passed p l o.0 o.1 in
     let started : is_start o.0.stage ≡ false = ap (λ (q : Progress). is_start q.stage) s.after ∙ begun p l.kind l.values s.order in
-    let read : read_line p (line_text l) ≡ Ok o.0 = ap (λ r. r >>= judged p) (line_again l h b) ∙ o.1 in
+    let read : read_line p (line_text l) ≡ Ok o.0 = ap (λ r. r >>= judged p) (line_again l h) ∙ o.1 in
     fault_next p n (line_text l) ls ∙ ap (λ r. fault_or n r (λ q. fault_from q (n + 1) (map line_text ls ++ [] ∷ []))) read ∙ more o.0 started o.2
 
-fault_none : (p : Progress) (n : ℕ) (ls : List Line) → AreLines ls → are_built_lines ls ≡ true → is_start p.stage ≡ false → is_ok (after_lines p ls) ≡ true → fault_from p n (map line_text ls ++ [] ∷ []) ≡ None
-fault_none p n [] h b s ok = rw s refl
-fault_none p n (l ∷ ls) h b s ok =
-    let bs = both_true (is_built_kind l.kind) (are_built_lines ls) b in
-    fault_line p n l ls h.0 bs.0 ok (λ q started more. fault_none q (n + 1) ls h.1 bs.1 started more)
+fault_none : (p : Progress) (n : ℕ) (ls : List Line) → AreLines ls → is_start p.stage ≡ false → is_ok (after_lines p ls) ≡ true → fault_from p n (map line_text ls ++ [] ∷ []) ≡ None
+fault_none p n [] h s ok = rw s refl
+fault_none p n (l ∷ ls) h s ok = fault_line p n l ls h.0 ok (λ q started more. fault_none q (n + 1) ls h.1 started more)
 
-fault_whole : (p : Progress) (n : ℕ) (l : Line) (ls : List Line) → AreLines (l ∷ ls) → are_built_lines (l ∷ ls) ≡ true → is_ok (after_lines p (l ∷ ls)) ≡ true → fault_from p n (map line_text (l ∷ ls) ++ [] ∷ []) ≡ None
-fault_whole p n l ls h b ok =
-    let bs = both_true (is_built_kind l.kind) (are_built_lines ls) b in
-    fault_line p n l ls h.0 bs.0 ok (λ q started more. fault_none q (n + 1) ls h.1 bs.1 started more)
+fault_whole : (p : Progress) (n : ℕ) (l : Line) (ls : List Line) → AreLines (l ∷ ls) → is_ok (after_lines p (l ∷ ls)) ≡ true → fault_from p n (map line_text (l ∷ ls) ++ [] ∷ []) ≡ None
+fault_whole p n l ls h ok = fault_line p n l ls h.0 ok (λ q started more. fault_none q (n + 1) ls h.1 started more)
 
-pub accepted : (script : Script) → AreSized (lines_of script) → are_built_lines (lines_of script) ≡ true → KeepsOrderAndLimits script → first_fault (script_text script) ≡ None
-accepted script sized built kept =
+pub accepted : (script : Script) → AreSized (lines_of script) → KeepsOrderAndLimits script → first_fault (script_text script) ≡ None
+accepted script sized kept =
     let plain = all_lines (lines_of script) (shaped_lines script) sized in
     let config = script.config in
     ap (fault_from start 1) (texts_again (lines_of script) plain)
-    ∙ fault_whole start 1 (numbers_line line.Header (config.block ∷ config.depth ∷ config.budget ∷ [])) (size_lines (line.Namespace space_kind.Nvm) 1 config.nvm ++ size_lines (line.Namespace space_kind.Mem) 1 config.mem ++ phase_lines script.phases ++ show_lines script.shows) plain built kept
+    ∙ fault_whole start 1 (numbers_line line.Header (config.block ∷ config.depth ∷ config.budget ∷ [])) (size_lines (line.Namespace space_kind.Nvm) 1 config.nvm ++ size_lines (line.Namespace space_kind.Mem) 1 config.mem ++ phase_lines script.phases ++ show_lines script.shows) plain kept

@@ -14,7 +14,6 @@ use Rattle.script_line.specs.declared.kind.SpaceKind.TheVariants as space_kind
 use Rattle.script_line.specs.Field.{IsShaped, Value}
 use Rattle.script_line.specs.Fits.{line_fits}
 use Rattle.script_line.specs.Line.{Line, counts, fields_of}
-use Rattle.script_line.specs.Reading.{is_built_kind}
 use Rattle.script_line.specs.Sized.{AreSized, IsLine}
 use Rattle.script_line.specs.Values.{number_at}
 use Rattle.script_cmds.specs.declared.item.Item.{Item}
@@ -25,14 +24,13 @@ use Rattle.script_cmds.specs.declared.progress.Progress.{Progress}
 use Rattle.script_cmds.specs.declared.progress.Stage.{Stage}
 use Rattle.script_cmds.specs.declared.progress.Stage.TheVariants.{AtStart, AfterHeader, AfterNamespace, InPhase, InPart, AfterShow}
 use Rattle.script_cmds.specs.Fault.{judged, after_lines}
-use Rattle.script_cmds.specs.Kept.{are_built_lines}
 use Rattle.script_cmds.specs.Progress.{start, is_in_order, is_within_limits, has_room, advanced, is_start, is_after_show, is_in_part, host_follows, namespace_follows, space_of}
 use Rattle.script_cmds.specs.Text.{numbers_line, size_lines, configuration_lines, item_lines, part_lines, phase_lines, show_lines}
 use Rattle.script_cmds.specs.private.Drafts.{Drafted, open_part_lines, open_lines, header_lines, lines_so_far, draft_lines, IsZeroFrom, HasNothing, HasSizes, IsTidy, IsDraft}
 use Rattle.script_cmds.specs.private.Stored.{AddsItem, AddsShow, EndsPart, EndsPhase, Stored}
 use Rattle.script_cmds.proofs.Keeping.{both_true, false_unless, header_keeps, space_keeps}
 use Rattle.script_cmds.proofs.Meanings.{HeaderSays, NamespaceSays, header_says, host_says, namespace_says, no_value}
-use Rattle.script_cmds.proofs.OneMore.{after_one_more, built_one_more, size_one_more, sized_one_more, zero_one_more, zeros_say_nothing}
+use Rattle.script_cmds.proofs.OneMore.{after_one_more, size_one_more, sized_one_more, zero_one_more, zeros_say_nothing}
 
 -- what a line that is let through says of itself
 pub record Passed (p : Progress) (l : Line) (q : Progress) : Type 0 where
@@ -296,28 +294,27 @@ pub record Adds (d d' : Drafted) (l : Line) (after : Progress) : Type 0 where
   pub lines : draft_lines d' ≡ draft_lines d ++ l ∷ []
   pub progress : d'.progress ≡ after
 
-adds_by : (d d1 : Drafted) (l : Line) (after : Progress) → IsDraft d → judged d.progress l ≡ Ok after → IsLine l → is_built_kind l.kind ≡ true → IsWithinLimits after.config → after ≡ advanced d.progress l.kind l.values → Grows d d1 l
+adds_by : (d d1 : Drafted) (l : Line) (after : Progress) → IsDraft d → judged d.progress l ≡ Ok after → IsLine l → IsWithinLimits after.config → after ≡ advanced d.progress l.kind l.values → Grows d d1 l
     → Adds d (record d1 { progress = after }) l after
-adds_by d d1 l after h j is b lim at g =
+adds_by d d1 l after h j is lim at g =
     let lines : lines_so_far after d1.phases d1.hosts d1.items d1.shows ≡ draft_lines d ++ l ∷ [] = ap (λ (p : Progress). lines_so_far p d1.phases d1.hosts d1.items d1.shows) at ∙ g.lines in
     record {
       draft = record {
         tidy = subst (λ (p : Progress). IsTidy p.stage p.config d1.phases d1.hosts d1.items d1.shows) (sym at) g.tidy;
         limits = lim;
         counted = ap (after_lines start) lines ∙ after_one_more start (draft_lines d) l d.progress after h.counted j;
-        built = ap are_built_lines lines ∙ built_one_more (draft_lines d) l h.built b;
         sized = subst (λ (ls : List Line). AreSized ls) (sym lines) (sized_one_more (draft_lines d) l h.sized is.sized);
       };
       lines = lines;
       progress = refl;
     }
 
-pub adds : (d d1 : Drafted) (l : Line) (after : Progress) → IsDraft d → judged d.progress l ≡ Ok after → IsLine l → is_built_kind l.kind ≡ true → Stored l.kind l.values d d1 → Adds d (record d1 { progress = after }) l after
-adds d d1 l after h j is b s =
+pub adds : (d d1 : Drafted) (l : Line) (after : Progress) → IsDraft d → judged d.progress l ≡ Ok after → IsLine l → Stored l.kind l.values d d1 → Adds d (record d1 { progress = after }) l after
+adds d d1 l after h j is s =
     let p = passed d.progress l after j in
     let g : Grows d d1 l = grows l.kind d d1 l.values h p.order is.shape (fits_of d.progress l p.limits) s in
     let lim : IsWithinLimits after.config = subst (λ (q : Progress). IsWithinLimits q.config) (sym p.after) (keeps l.kind d.progress l.values h.limits is.shape p.limits) in
-    adds_by d d1 l after h j is b lim p.after g
+    adds_by d d1 l after h j is lim p.after g
 
 pub finished : (s : Stage) (c : Configuration) (P O S : List Line) → is_start s ≡ false → (configuration_lines c ++ (P ++ O)) ++ S ≡ ((header_lines s c ++ P) ++ O) ++ S
 finished s c P O S h = ap (λ (x : List Line). x ++ S) (sym (append_assoc (configuration_lines c) P O)) ∙ ap (λ (x : List Line). ((x ++ P) ++ O) ++ S) (sym (header_again s c (rw h refl)))

@@ -1,29 +1,20 @@
--- Lines and whole texts: the first fault is told, and what is built.
+-- Lines and whole texts: the first fault is told.
 use Rattle.std.proofs.Common.{◌≡◌, ℕ, ◌+◌, ◌≤◌, Bool, true, false, ◌&&◌, cond, eqb, List, [], ◌∷◌, ◌++◌, length, Option, None, Result, Ok, Err, refl, sym, ap, ◌∙◌, append_assoc, arith}
-use Rattle.std.specs.List.{list_all}
 use Rattle.std.proofs.lemmas.List.Sums.{sum_by-append}
-use Rattle.built_commands.specs.Built.{is_built}
 use Rattle.cp_text.specs.Parts.{parts_between}
 use Rattle.cp_text.proofs.Cuts.{some_part}
 use Rattle.script_line.specs.declared.fault.TextCause.{TextCause}
 use Rattle.script_line.specs.declared.fault.TextCause.TheVariants as cause
 use Rattle.script_line.specs.Line.{Line, line_text}
-use Rattle.script_line.specs.Reading.{is_built_kind}
 use Rattle.script_cmds.specs.declared.fault.ParseEnd.{ParseEnd}
 use Rattle.script_cmds.specs.declared.fault.ParseEnd.TheVariants as told
 use Rattle.script_cmds.specs.declared.fault.ScriptFault.{ScriptFault}
-use Rattle.script_cmds.specs.declared.item.Item.{Item}
-use Rattle.script_cmds.specs.declared.item.Item.TheVariants as item
-use Rattle.script_cmds.specs.declared.item.HostPart.{HostPart}
-use Rattle.script_cmds.specs.declared.item.Phase as declared
 use Rattle.script_cmds.specs.declared.progress.Progress.{Progress}
-use Rattle.script_cmds.specs.declared.script.Script.{Script}
 use Rattle.script_cmds.specs.Ends.{Tells}
 use Rattle.script_cmds.specs.private.Faults.{Faults}
 use Rattle.script_cmds.specs.Fault.{read_line, fault_at, fault_or, fault_from, newlines}
-use Rattle.script_cmds.specs.Kept.{is_built_item, are_built, are_built_lines}
 use Rattle.script_cmds.specs.Progress.{is_start}
-use Rattle.script_cmds.specs.Text.{lines_of, lines_text, item_lines, part_lines, phase_lines, show_lines, configuration_lines}
+use Rattle.script_cmds.specs.Text.{lines_text}
 
 -- ---- faults
 
@@ -49,44 +40,6 @@ fault_unended p n (b ∷ bs) e h = ap (fault_from p n) e
 pub fault_at_end : (p : Progress) (n : ℕ) (rest : List ℕ) → parts_between 10 rest ≡ rest ∷ [] → rest ≡ [] → fault_from p n (parts_between 10 rest) ≡ cond (is_start p.stage) (fault_at n cause.Order) None
 fault_at_end p n [] e h = refl
 fault_at_end p n (b ∷ bs) e h = absurd cc
-
--- ---- what is built
-
-both_are : (a b : Bool) → (a && b) ≡ true → (a ≡ true) × (b ≡ true)
-both_are true b e = (refl, e)
-both_are false b e = absurd cc
-
-built_front : (xs ys : List Line) → are_built_lines (xs ++ ys) ≡ true → (are_built_lines xs ≡ true) × (are_built_lines ys ≡ true)
-built_front [] ys e = (refl, e)
-built_front (x ∷ xs) ys e =
-    let p = both_are (is_built_kind x.kind) (are_built_lines (xs ++ ys)) e in
-    let q = built_front xs ys p.1 in
-    (rw (p.0, q.0) refl, q.1)
-
-built_items : (xs : List Item) → are_built_lines (item_lines xs) ≡ true → list_all is_built_item xs ≡ true
-built_items [] e = refl
-built_items (item.Send cid c ∷ xs) e =
-    let p = both_are (is_built c.value) (are_built_lines (item_lines xs)) e in
-    rw (p.0, built_items xs p.1) refl
-built_items (item.Take cid ∷ xs) e = built_items xs e
-
-built_parts : (xs : List HostPart) → are_built_lines (part_lines xs) ≡ true → list_all (λ (part : HostPart). list_all is_built_item part.items) xs ≡ true
-built_parts [] e = refl
-built_parts (x ∷ xs) e =
-    let p = built_front (item_lines x.items) (part_lines xs) e in
-    rw (built_items x.items p.0, built_parts xs p.1) refl
-
-built_phases : (xs : List declared.Phase) → are_built_lines (phase_lines xs) ≡ true → list_all (λ (phase : declared.Phase). list_all (λ (part : HostPart). list_all is_built_item part.items) phase.hosts) xs ≡ true
-built_phases [] e = refl
-built_phases (x ∷ xs) e =
-    let p = built_front (part_lines x.hosts) (phase_lines xs) e in
-    rw (built_parts x.hosts p.0, built_phases xs p.1) refl
-
-pub built_script : (script : Script) → are_built_lines (lines_of script) ≡ true → are_built script ≡ true
-built_script script e =
-    let p = built_front (configuration_lines script.config ++ phase_lines script.phases) (show_lines script.shows) e in
-    let q = built_front (configuration_lines script.config) (phase_lines script.phases) p.0 in
-    built_phases script.phases q.1
 
 -- ---- newlines
 

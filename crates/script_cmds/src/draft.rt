@@ -4,7 +4,6 @@ ghost use Rattle.cp_base.specs.Configuration.{IsWithinLimits};
 ghost use Rattle.cp_base.specs.declared.limits.TheConstants.{MAX_NAMESPACE};
 ghost use Rattle.script_line.specs.Fits.{values_fit};
 ghost use Rattle.script_line.specs.Line.{fields_of};
-ghost use Rattle.script_line.specs.Reading.{is_built_kind};
 ghost use Rattle.script_line.specs.Sized.{IsLine};
 ghost use Rattle.script_line.specs.Values.{Fails, line_view, number_at, value_view};
 ghost use Rattle.script_line.specs.declared.kind.LineKind.TheVariants as line_kind;
@@ -89,7 +88,6 @@ impl Draft {
         requires draft { IsDraft self.old }
         requires after { judged self.old.progress (line_view line) ≡ Ok after }
         requires line { IsLine (line_view line) }
-        requires built { is_built_kind line.kind ≡ true }
         ensures draft { OnOk result (IsDraft self.new) }
         ensures lines { OnOk result (draft_lines self.new ≡ draft_lines self.old ++ line_view line ∷ []) }
         ensures progress { OnOk result (self.new.progress ≡ after) }

@@ -1,19 +1,19 @@
 // Laws of the texts of scripts. The functions do nothing; their clauses are the laws.
-ghost use Rattle.std.specs.Prelude.{◌≡◌, ◌≤◌, ℕ, List, None, IsTrue};
+ghost use Rattle.std.specs.Prelude.{◌≡◌, ◌≤◌, ℕ, List, None};
 ghost use Rattle.script_line.specs.Sized.{AreSized};
 ghost use Rattle.script_line.specs.declared.limits.TheConstants.{VERSION_1};
 ghost use Rattle.script_cmds.specs.Counts.{sends_in_phases};
 ghost use Rattle.script_cmds.specs.Fault.{first_fault};
 ghost use Rattle.script_cmds.specs.Hosts.{HaveHosts};
-ghost use Rattle.script_cmds.specs.Kept.{IsScriptText, KeepsOrderAndLimits, are_built_lines};
+ghost use Rattle.script_cmds.specs.Kept.{IsScriptText, KeepsOrderAndLimits};
 ghost use Rattle.script_cmds.specs.Text.{lines_of, script_text};
 ghost use Rattle.script_cmds.specs.declared.script.Script.{Script};
 
-/// The text of a script is read again: no line of it is faulty, where the script's lines are built, stand
-/// in their places and keep their limits. No script with other lines has the same text. A text without a
+/// The text of a script is read again: no line of it is faulty, where the script's lines stand in their
+/// places and keep their limits. No script with other lines has the same text. A text without a
 /// faulty line is the text of such a script.
 pub fn script_laws()
-    ensures accepted { (script : Script) → AreSized (lines_of script) → IsTrue (are_built_lines (lines_of script))
+    ensures accepted { (script : Script) → AreSized (lines_of script)
         → KeepsOrderAndLimits script → first_fault (script_text script) ≡ None }
     ensures one_text { (a b : Script) → AreSized (lines_of a) → AreSized (lines_of b)
         → script_text a ≡ script_text b → lines_of a ≡ lines_of b }

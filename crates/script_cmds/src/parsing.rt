@@ -1,9 +1,9 @@
 // A whole script, read from its text.
-ghost use Rattle.std.specs.Prelude.{◌≡◌, ◌≤◌, ◌++◌, ◌∷◌, [], Ok, None, IsTrue, IfOk, IfErr, OnOk, length};
+ghost use Rattle.std.specs.Prelude.{◌≡◌, ◌≤◌, ◌++◌, ◌∷◌, [], Ok, None, IfOk, IfErr, OnOk, length};
 ghost use Rattle.script_line.specs.Sized.{AreSized};
 ghost use Rattle.script_cmds.specs.Ends.{Tells};
 ghost use Rattle.script_cmds.specs.Fault.{first_fault, newlines, read_line};
-ghost use Rattle.script_cmds.specs.Kept.{KeepsOrderAndLimits, are_built, are_built_lines};
+ghost use Rattle.script_cmds.specs.Kept.{KeepsOrderAndLimits};
 ghost use Rattle.script_cmds.specs.private.Drafts.{IsDraft, draft_lines};
 ghost use Rattle.script_cmds.specs.private.Faults.{Faults};
 ghost use Rattle.script_cmds.specs.declared.fault.ParseEnd.TheVariants as end;
@@ -27,8 +27,6 @@ pub fn parse(alloc: Global, text: &Bytes) -> Result<Script, ParseEnd>
     ensures accepted { OnOk result (first_fault text.now.items ≡ None) }
     ensures order_and_limits { IfOk result KeepsOrderAndLimits }
     ensures sized { IfOk result (λ script. AreSized (lines_of script)) }
-    ensures built { IfOk result (λ script. IsTrue (are_built script)) }
-    ensures built_lines { IfOk result (λ script. IsTrue (are_built_lines (lines_of script))) }
     ensures lines { IfOk result (λ script. length (lines_of script) ≤ 4294967294) }
     ensures fault { IfErr result (λ end. Tells end (first_fault text.now.items)) }
 {

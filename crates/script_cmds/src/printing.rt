@@ -6,7 +6,7 @@ ghost use Rattle.script_line.specs.Line.{Line, counts, fields_of};
 ghost use Rattle.script_line.specs.Printing.{PrintsLine};
 ghost use Rattle.script_line.specs.Sized.{AreSized};
 ghost use Rattle.script_cmds.specs.Fault.{first_fault};
-ghost use Rattle.script_cmds.specs.Kept.{KeepsOrderAndLimits, are_built_lines};
+ghost use Rattle.script_cmds.specs.Kept.{KeepsOrderAndLimits};
 ghost use Rattle.script_cmds.specs.private.Printing.{Prints};
 ghost use Rattle.script_cmds.specs.Text.{configuration_lines, item_line, item_lines, lines_of, numbers_line, part_lines, phase_lines, script_text, show_line, show_lines, size_lines};
 ghost use Rattle.script_line.specs.declared.content.FieldContent.TheVariants as said;
@@ -19,13 +19,11 @@ use script_line::{LineKind, SpaceKind, push_line, push_send};
 use std::alloc::Global;
 
 /// The one text of a script: its lines in their order, each ended by a newline. `parse` reads it again
-/// where the script keeps order and limits and its lines are built; a script that `parse` gave has the
-/// text that it was read from. `NoMemory` where memory is wanting.
+/// where the script keeps order and limits; a script that `parse` gave has the text that it was read from. `NoMemory` where memory is wanting.
 pub fn print(alloc: Global, script: &Script) -> Result<Bytes, NoMemory>
     ensures text { IfOk result (λ text. text.items ≡ script_text script.now) }
     ensures sized { OnOk result (AreSized (lines_of script.now)) }
-    ensures accepted { OnOk result (IsTrue (are_built_lines (lines_of script.now))
-        → KeepsOrderAndLimits script.now
+    ensures accepted { OnOk result (KeepsOrderAndLimits script.now
         → first_fault (script_text script.now) ≡ None) }
 {
     let mut out = Bytes::new(alloc);

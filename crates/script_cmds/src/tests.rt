@@ -96,7 +96,10 @@ fn faults(rt: HostRuntime) -> Result<(), Fail> {
             5,
             TextCause::Word,
         ),
-        (FRONT, "send 1 abort cid=1\n", 5, TextCause::Word),
+        (FRONT, "send 1 abort cid=1:2\n", 5, TextCause::Number),
+        (FRONT, "send 1 abort cid=01\n", 5, TextCause::Number),
+        (FRONT, "send 1 abort cid=65536\n", 5, TextCause::Limit),
+        (FRONT, "send 1 abort\n", 5, TextCause::Field),
         (
             FRONT,
             "send  1 memread ns=1 at=0 len=1\n",
@@ -219,7 +222,7 @@ fn add_commands(alloc: Global, items: &mut Vec<Item>) -> Result<(), Fail> {
     add(alloc, items, Command::MemCopy { ns, at, from })
 }
 
-// Adds a send of each command on sets and slots.
+// Adds a send of each command on sets and slots, and of an Abort.
 fn add_programs(alloc: Global, items: &mut Vec<Item>) -> Result<(), Fail> {
     let (slot, set, size, at) = (1, u32::MAX, 8, 0);
     let range = MemRange {
@@ -260,7 +263,8 @@ fn add_programs(alloc: Global, items: &mut Vec<Item>) -> Result<(), Fail> {
             p2,
             budget,
         },
-    )
+    )?;
+    add(alloc, items, Command::Abort { cid: 65_535 })
 }
 
 // A script with a line of each kind and a send of each command.
@@ -305,7 +309,8 @@ fn each_line_is_printed(rt: HostRuntime) -> Result<(), Fail> {
         send 7 setcreate ranges=1:2:3,1:2:3:r\nsend 7 setdelete set=4294967295\n\
         send 7 load slot=1 size=8 at=0 data=95\nsend 7 unload slot=1\n\
         send 7 activate slot=1\nsend 7 deactivate slot=1\n\
-        send 7 execute slot=1 set=4294967295 p1=3 p2=4 budget=5\ntake 7\n\
+        send 7 execute slot=1 set=4294967295 p1=3 p2=4 budget=5\n\
+        send 7 abort cid=65535\ntake 7\n\
         show nvm 2 at=0 len=512\nshow mem 1 at=60 len=4\n";
     let script = full_script(rt.alloc())?;
     let text = print(rt.alloc(), &script)?;

@@ -25,7 +25,7 @@ use Rattle.script_line.specs.declared.kind.LineKind.TheVariants as line
 use Rattle.script_line.specs.declared.kind.SpaceKind.TheVariants as space_kind
 use Rattle.script_line.specs.Field.{Field, IsShaped, Word, Number, Hex, Sources, Ranges, Value, Count, Data, Copied, Covered, access_parts, triple_text, source_text, range_text, field_texts}
 use Rattle.script_line.specs.Line.{Line, fields_of, line_text}
-use Rattle.script_line.specs.Reading.{◌>>=◌, unless, line_of, is_built_kind, kind_of, both, after_name, or_cause, read_number, changed, read_three, read_triple, nvm_source, mem_source, mem_range, range_in, read_source, read_range, read_each, read_behind, read_field, read_fields}
+use Rattle.script_line.specs.Reading.{◌>>=◌, line_of, kind_of, both, after_name, or_cause, read_number, changed, read_three, read_triple, nvm_source, mem_source, mem_range, range_in, read_source, read_range, read_each, read_behind, read_field, read_fields}
 use Rattle.script_line.specs.Sized.{IsLine, IsSized, IsSizedRange, IsSizedSource}
 use Rattle.script_line.specs.private.Pushed.{front_of}
 use Rattle.script_line.proofs.Spelled.{ok_is}
@@ -278,12 +278,11 @@ line_parts l h =
 pub line_lacks : (l : Line) → IsLine l → lacks 10 (line_text l) ≡ true
 line_lacks l h = joined_lacks 10 32 (field_texts (fields_of l.kind) l.values) refl (texts_lack 10 (fields_of l.kind) l.values newline refl (plain_fronts l.kind).1 h.shape h.sized)
 
-pub line_again : (l : Line) → IsLine l → is_built_kind l.kind ≡ true → line_of (line_text l) ≡ Ok l
-line_again l h b =
+pub line_again : (l : Line) → IsLine l → line_of (line_text l) ≡ Ok l
+line_again l h =
     let texts = field_texts (fields_of l.kind) l.values in
-    let read : List (List ℕ) → LineKind → Result Line TextCause = λ ps built. read_fields (fields_of built) ps >>= λ values. Ok (record { kind = built; values = values }) in
-    ap (λ ps. kind_of ps >>= λ kind. unless (is_built_kind kind) cause.Word kind >>= read ps) (line_parts l h)
-    ∙ ap (λ r. r >>= λ kind. unless (is_built_kind kind) cause.Word kind >>= read texts) (kind_again l.kind l.values h.shape) ∙ ap (λ t. unless t cause.Word l.kind >>= read texts) b
+    let read : List (List ℕ) → LineKind → Result Line TextCause = λ ps kind. read_fields (fields_of kind) ps >>= λ values. Ok (record { kind = kind; values = values }) in
+    ap (λ ps. kind_of ps >>= read ps) (line_parts l h) ∙ ap (λ r. r >>= read texts) (kind_again l.kind l.values h.shape)
     ∙ ap (λ r. r >>= λ values. Ok (record { kind = l.kind; values = values })) (fields_again (fields_of l.kind) l.values h.shape h.sized)
 
 -- lines of one text are one line

@@ -1,7 +1,6 @@
 -- How a line is read from its text, and what is wrong where it is none. This project's own.
 use Rattle.std.specs.Prelude.{ℕ, ◌==◌, nat_le, Bool, true, false, List, [], ◌∷◌, ◌++◌, Option, Some, None, option_map, Result, Ok, Err, if◌then◌else◌, codes}
 use Rattle.std.specs.Str.{bytes_eq}
-use Rattle.built_commands.specs.Built.{is_built_word}
 use Rattle.cp_text.specs.HexText.{hex_of}
 use Rattle.cp_text.specs.Number.{number_of}
 use Rattle.cp_text.specs.Parts.{parts_between}
@@ -44,11 +43,6 @@ infixl 10 ◌>>=◌
 abbrev pub ◌>>=◌ : {A B : Type 0} → Result A TextCause → (A → Result B TextCause) → Result B TextCause
 (Ok x) >>= f = f x
 (Err e) >>= f = Err e
-
--- a value where a test holds, and else the cause that it does not
-abbrev pub unless : {A : Type 0} → Bool → TextCause → A → Result A TextCause
-unless true e x = Ok x
-unless false e x = Err e
 
 -- what stands behind a name at the front of a text
 abbrev pub after_name : List ℕ → List ℕ → Option (List ℕ)
@@ -153,16 +147,10 @@ kind_of (text ∷ more) =
     else if bytes_eq text (codes "show") then show_kind more
     else Err cause.Word
 
--- whether this version of the program knows lines of this kind
-abbrev pub is_built_kind : LineKind → Bool
-is_built_kind (Send word) = is_built_word word
-is_built_kind _ = true
-
 -- what a line says by its text, without its newline: its kind by its words, then its fields
 abbrev pub line_of : List ℕ → Result Line TextCause
 line_of text = do
   let fields : List (List ℕ) = parts_between 32 text
   kind ← kind_of fields
-  built ← unless (is_built_kind kind) cause.Word kind
-  values ← read_fields (fields_of built) fields
-  Ok (record { kind = built; values = values })
+  values ← read_fields (fields_of kind) fields
+  Ok (record { kind = kind; values = values })

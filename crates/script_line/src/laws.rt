@@ -5,18 +5,17 @@ ghost use Rattle.cp_base.specs.declared.lists.Access.TheVariants as access;
 ghost use Rattle.cp_text.specs.Parts.{lacks};
 ghost use Rattle.script_line.specs.Field.{IsShaped};
 ghost use Rattle.script_line.specs.Line.{Line, fields_of, line_text, send_line};
-ghost use Rattle.script_line.specs.Reading.{is_built_kind, line_of, read_range};
+ghost use Rattle.script_line.specs.Reading.{line_of, read_range};
 ghost use Rattle.script_line.specs.Sized.{IsLine};
 ghost use Rattle.script_line.specs.declared.fault.TextCause.TheVariants as cause;
 ghost use Rattle.script_line.specs.declared.limits.TheConstants.{MAX_32, MAX_64, MAX_CID, MAX_VALUE, VERSION_1};
 
-/// A text is read as a line exactly where it is the one text of that line, which this version of the program
-/// knows. This text has no newline, and another line has another. A command has a line.
+/// A text is read as a line exactly where it is the one text of that line. This text has no newline, and
+/// another line has another. A command has a line.
 pub fn line_laws()
     ensures spelled_so { (text : List ℕ) (line : Line) → line_of text ≡ Ok line
-        → (line_text line ≡ text) × IsLine line × (is_built_kind line.kind ≡ true) }
-    ensures read_so { (line : Line) → IsLine line → is_built_kind line.kind ≡ true
-        → line_of (line_text line) ≡ Ok line }
+        → (line_text line ≡ text) × IsLine line }
+    ensures read_so { (line : Line) → IsLine line → line_of (line_text line) ≡ Ok line }
     ensures one_line { (a b : Line) → IsLine a → IsLine b → line_text a ≡ line_text b → a ≡ b }
     ensures no_newline { (line : Line) → IsLine line → lacks 10 (line_text line) ≡ true }
     ensures sent { (cid : ℕ) (command : Command)

@@ -6,7 +6,7 @@ ghost use Rattle.script_line.specs.declared.fault.TextCause.TheVariants as cause
 ghost use Rattle.script_line.specs.Field as grammar;
 ghost use Rattle.script_line.specs.Field.{Value};
 ghost use Rattle.script_line.specs.Fits.{line_fits, values_fit};
-ghost use Rattle.script_line.specs.Reading.{both, is_built_kind, line_of, or_cause, read_field};
+ghost use Rattle.script_line.specs.Reading.{both, line_of, or_cause, read_field};
 ghost use Rattle.script_line.specs.Values.{Gives, line_view, value_view};
 ghost use Rattle.script_line.specs.private.Outcomes.{field_view, noted, outcome, outcome_with, read_cid, read_rest, so_far, values_of};
 
@@ -14,7 +14,6 @@ use crate::field::{Field, FieldValue, after_name};
 use crate::kind::{CID, CutLine};
 use crate::lists::{noted, read_number, read_ranges, read_sources};
 use crate::{LineEnd, LineKind, TextCause};
-use built_commands::is_built;
 use cp_base::{Bytes, NoMemory};
 use cp_text::{hex_bytes, split_part};
 use std::alloc::Global;
@@ -35,27 +34,9 @@ pub fn read_line(alloc: Global, text: &[u8]) -> Result<ReadLine, LineEnd>
         Ok(cut) => cut,
         Err(cause) => return Err(LineEnd::Fault(cause)),
     };
-    if !is_built_kind(cut.kind) {
-        return Err(LineEnd::Fault(TextCause::Word));
-    }
     let values = read_values(alloc, cut)?;
     let kind = cut.kind;
     Ok(ReadLine { kind, values })
-}
-
-// Whether this version of the program knows lines of this kind.
-fn is_built_kind(kind: LineKind) -> bool
-    ensures { result ≡ is_built_kind kind }
-{
-    match kind {
-        LineKind::Send(word) => is_built(word),
-        LineKind::Header
-        | LineKind::Namespace(_)
-        | LineKind::Phase
-        | LineKind::Host
-        | LineKind::Take
-        | LineKind::Show(_) => true,
-    }
 }
 
 // What the fields of a line say, whose words are read.

@@ -1,5 +1,5 @@
 -- What a script that is being read says so far. Private contracts speak of these.
-use Rattle.std.specs.Prelude.{◌≡◌, ℕ, zero, suc, true, List, [], ◌∷◌, ◌++◌, Ok}
+use Rattle.std.specs.Prelude.{◌≡◌, ℕ, zero, suc, List, [], ◌∷◌, ◌++◌, Ok}
 use Rattle.cp_base.specs.Configuration.{Configuration, IsWithinLimits}
 use Rattle.script_line.specs.declared.kind.LineKind.TheVariants as line
 use Rattle.script_line.specs.declared.kind.SpaceKind.{SpaceKind}
@@ -14,7 +14,6 @@ use Rattle.script_cmds.specs.declared.progress.Progress.{Progress}
 use Rattle.script_cmds.specs.declared.progress.Stage.{Stage}
 use Rattle.script_cmds.specs.declared.progress.Stage.TheVariants.{AtStart, AfterHeader, AfterNamespace, InPhase, InPart, AfterShow}
 use Rattle.script_cmds.specs.Fault.{after_lines}
-use Rattle.script_cmds.specs.Kept.{are_built_lines}
 use Rattle.script_cmds.specs.Progress.{start}
 use Rattle.script_cmds.specs.Text.{configuration_lines, numbers_line, item_lines, part_lines, phase_lines, show_lines}
 
@@ -80,5 +79,4 @@ pub record IsDraft (draft : Drafted) : Type 0 where
   pub tidy : IsTidy draft.progress.stage draft.progress.config draft.phases draft.hosts draft.items draft.shows
   pub limits : IsWithinLimits draft.progress.config
   pub counted : after_lines start (draft_lines draft) ≡ Ok draft.progress
-  pub built : are_built_lines (draft_lines draft) ≡ true
   pub sized : AreSized (draft_lines draft)

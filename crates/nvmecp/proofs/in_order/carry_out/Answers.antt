@@ -2,10 +2,9 @@ use Rattle.std.proofs.Common.{◌≡◌, ℕ, ◌+◌, List, ◌∷◌, [], ◌+
 use Rattle.std.proofs.lemmas.List.{map-append}
 use Rattle.cp_base.specs.Answer.{Answer, answer_of}
 use Rattle.cp_base.specs.Configuration.{Configuration}
-use Rattle.device_model.specs.Step.{DeviceStep}
-use Rattle.nvmecp.specs.Place.{Place, CarriesOut, IsCarried}
+use Rattle.nvmecp.specs.Place.{CarriesOut, IsAnswered, IsCarried, Place}
 use Rattle.nvmecp.specs.Shown.{AreShort, places_of}
-use Rattle.nvmecp.proofs.Steps.{AreBuilt-at, CarriesOut-more, places_of-more, short_more}
+use Rattle.nvmecp.proofs.Steps.{CarriesOut-more, places_of-more, short_more}
 use Rattle.nvmecp.proofs.in_order.carry_out.Goals as goal
 
 pub loop-one-preserved : goal.loop-one-preserved
@@ -15,10 +14,8 @@ loop-one-preserved c =
     let i : ℕ = c.loop-one.one-index in
     let p = c.one-item.result in
     let command_is = c.deref.ensures in
-    let before = AreBuilt-at placed i p c.loop-one-test.true c.one-item.is c.loop-one.invariant.built in
     let step : IsCarried first c.loop-one.device.state p.command.value (answer_of c.step.result) c.step.new.self.state = record {
-      built = before.0;
-      step = subst (λ (x : Configuration). DeviceStep x c.loop-one.device.state p.command.value (answer_of c.step.result) c.step.new.self.state) c.loop-one.invariant.config (search (rules, c.step.ensures.step, command_is));
+      step = subst (λ (x : Configuration). IsAnswered x c.loop-one.device.state p.command.value (answer_of c.step.result) c.step.new.self.state) c.loop-one.invariant.config (search (rules, c.step.ensures.carried.0, command_is));
       done = c.step.ensures.not_withdrawn;
     } in
     let replied : map answer_of c.push.new.self.items ≡ map answer_of c.loop-one.replies.items ++ answer_of c.step.result ∷ [] = ap (map answer_of) c.in_ok-push.ensures.items ∙ map-append answer_of c.loop-one.replies.items (c.step.result ∷ []) in
@@ -28,5 +25,4 @@ loop-one-preserved c =
           (subst (λ (places : List Place). CarriesOut first c.args.device.now.state places (map answer_of c.loop-one.replies.items ++ answer_of c.step.result ∷ []) c.step.new.self.state) (sym (places_of-more placed i p c.loop-one-test.true c.one-item.is)) more);
       short = subst AreShort (sym c.in_ok-push.ensures.items) (short_more c.loop-one.replies.items c.step.result c.loop-one.invariant.short c.step.ensures.short);
       config = c.step.ensures.config ∙ c.loop-one.invariant.config;
-      built = before.1;
     }

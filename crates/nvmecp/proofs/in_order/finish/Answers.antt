@@ -6,7 +6,7 @@ use Rattle.device_model.specs.State.{State}
 use Rattle.script_cmds.specs.declared.item.Phase.{Phase}
 use Rattle.seq_device.specs.Standing.{Standing}
 use Rattle.history_model.specs.Sent.{sends_of}
-use Rattle.nvmecp.specs.Place.{AreBuilt, CarriesOut, place_of, places_of_phases}
+use Rattle.nvmecp.specs.Place.{CarriesOut, place_of, places_of_phases}
 use Rattle.nvmecp.specs.Shown.{place_of_placed, places_of}
 use Rattle.nvmecp.specs.declared.in_order.Placed.{Placed}
 use Rattle.nvmecp.proofs.Legal.{places_are}
@@ -16,12 +16,6 @@ use Rattle.nvmecp.proofs.in_order.finish.Goals as goal
 
 pub all_placed-requires : goal.all_placed-requires
 all_placed-requires c = c.requires.commands ∙ sym (count_places c.args.plan.now.phases) ∙ ap (λ (phases : List Phase). length (places_of_phases [] phases)) (sym c.as_slice.ensures)
-
-pub carry_out-requires : goal.carry_out-requires
-carry_out-requires c =
-    let placed : places_of c.as_slice-2.result.now ≡ map place_of (sends_of c.args.plan.now.phases) =
-    ap places_of c.as_slice-2.ensures.value ∙ c.in_ok-placed.ensures.places ∙ ap (places_of_phases []) c.as_slice.ensures ∙ places_are c.args.plan.now.phases in
-    subst AreBuilt (sym placed) c.requires.built
 
 pub returns : goal.returns
 returns c =

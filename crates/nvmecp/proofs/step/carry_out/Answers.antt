@@ -1,20 +1,13 @@
-use Rattle.std.proofs.Common.{List, map, inl, sym, subst}
+use Rattle.std.proofs.Common.{List, inl, sym, subst}
 use Rattle.std.specs.Io.KnownBytes.{Appends}
 use Rattle.cp_base.specs.Configuration.{Configuration}
 use Rattle.cp_io.specs.Sink.{AppendsFront}
 use Rattle.script_cmds.specs.declared.item.Show.{Show}
-use Rattle.history_model.specs.Sent.{Sent}
 use Rattle.nvmecp.specs.Finished.{finished_text}
-use Rattle.nvmecp.specs.Place.{AreBuilt, place_of}
 use Rattle.nvmecp.specs.Shown.{AreInside}
-use Rattle.nvmecp.proofs.BuiltSends.{sends_built}
 use Rattle.nvmecp.proofs.Printed.{print_of}
 use Rattle.nvmecp.proofs.Shows.{inside}
 use Rattle.nvmecp.proofs.step.carry_out.Goals as goal
-
-pub finish-requires-clause-built : goal.finish-requires-clause-built
-finish-requires-clause-built g c =
-    subst (λ (sents : List Sent). AreBuilt (map place_of sents)) (sym c.requires.sends) (sends_built c.args.script.now c.requires.built)
 
 pub print-requires-clause-inside : goal.print-requires-clause-inside
 print-requires-clause-inside g c =

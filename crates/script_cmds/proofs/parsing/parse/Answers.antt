@@ -2,11 +2,10 @@ use Rattle.std.proofs.Common.{List, ◌∙◌, ap, subst, sym}
 use Rattle.std.proofs.lemmas.Result.{err_from_is_err_and}
 use Rattle.script_line.specs.Line.{Line}
 use Rattle.script_line.specs.Sized.{AreSized}
-use Rattle.script_cmds.specs.Kept.{are_built_lines}
 use Rattle.script_cmds.specs.private.Drafts.{draft_lines}
 use Rattle.script_cmds.specs.Fault.{first_fault}
 use Rattle.script_cmds.specs.Text.{lines_text}
-use Rattle.script_cmds.proofs.WholeTexts.{built_script, count_goes_on, fault_later, few_of_text, text_goes_on, told_here}
+use Rattle.script_cmds.proofs.WholeTexts.{count_goes_on, fault_later, few_of_text, text_goes_on, told_here}
 use Rattle.script_cmds.proofs.parsing.parse.Goals as goal
 
 pub returns-in_err-add_line-clause-fault : goal.returns-in_err-add_line-clause-fault
@@ -21,9 +20,6 @@ lines-preserved c = record {
   fault = sym (fault_later c.lines.draft.progress c.add_line.new.draft.progress c.lines.number c.in-Some.line.now c.lines.rest.now c.in-Some.after.now c.in-Some.ensures.parts c.in_ok-add_line.ensures.read) ∙ c.lines.invariant.fault;
   count = count_goes_on c.lines.number c.in-Some.line.now c.lines.rest.now c.in-Some.after.now c.in-Some.ensures.whole c.lines.invariant.count;
 }
-
-pub returns-clause-built : goal.returns-clause-built
-returns-clause-built c = built_script c.in_ok-finish.field-0 (ap are_built_lines c.in_ok-finish.ensures ∙ c.lines.invariant.draft.built)
 
 pub returns-clause-lines : goal.returns-clause-lines
 returns-clause-lines c = few_of_text _ (draft_lines c.lines.draft) c.lines.rest.now c.args.text.now.items 4294967294 c.in_ok-finish.ensures c.lines.invariant.text c.requires

@@ -4,7 +4,7 @@ use Rattle.script_line.proofs.Sends.{send_shape}
 use Rattle.script_line.proofs.laws.line_laws.Goals as goal
 
 pub returns-clause-spelled_so : goal.returns-clause-spelled_so
-returns-clause-spelled_so c text line e = let s = line_says text line e in (s.spelled, s.line, s.built)
+returns-clause-spelled_so c text line e = let s = line_says text line e in (s.spelled, s.line)
 
 pub returns-clause-read_so : goal.returns-clause-read_so
 returns-clause-read_so c = line_again

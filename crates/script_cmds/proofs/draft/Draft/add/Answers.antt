@@ -8,9 +8,6 @@ use Rattle.script_cmds.proofs.draft.Draft.add.Goals as goal
 pub after-requires-clause-shape : goal.after-requires-clause-shape
 after-requires-clause-shape c = (line_says c.args.text.now _ c.in_ok-line.ensures).line.shape
 
-pub put-requires-clause-built : goal.put-requires-clause-built
-put-requires-clause-built c = (line_says c.args.text.now _ c.in_ok-line.ensures).built
-
 pub put-requires-clause-line : goal.put-requires-clause-line
 put-requires-clause-line c = (line_says c.args.text.now _ c.in_ok-line.ensures).line
 

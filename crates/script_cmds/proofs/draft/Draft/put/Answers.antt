@@ -6,10 +6,10 @@ use Rattle.script_cmds.proofs.draft.Draft.put.Goals as goal
 
 pub returns-clause-draft : goal.returns-clause-draft
 returns-clause-draft c =
-    let a = adds c.args.self.now c.store.new.self (line_view c.args.line) c.args.after c.requires.draft c.requires.after c.requires.line c.requires.built c.in_ok-store.ensures in
+    let a = adds c.args.self.now c.store.new.self (line_view c.args.line) c.args.after c.requires.draft c.requires.after c.requires.line c.in_ok-store.ensures in
     subst (λ (d : Drafted). IsDraft d) (sym c.stand.ensures) a.draft
 
 pub returns-clause-lines : goal.returns-clause-lines
 returns-clause-lines c =
-    let a = adds c.args.self.now c.store.new.self (line_view c.args.line) c.args.after c.requires.draft c.requires.after c.requires.line c.requires.built c.in_ok-store.ensures in
+    let a = adds c.args.self.now c.store.new.self (line_view c.args.line) c.args.after c.requires.draft c.requires.after c.requires.line c.in_ok-store.ensures in
     subst (λ (d : Drafted). draft_lines d ≡ draft_lines c.args.self.now ++ line_view c.args.line ∷ []) (sym c.stand.ensures) a.lines

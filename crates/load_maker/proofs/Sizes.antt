@@ -1,20 +1,17 @@
--- The lines of a load are sized and built.
+-- The lines of a load are sized.
 use Rattle.std.proofs.Common.{◌≡◌, ℕ, zero, suc, ◌+◌, ◌/◌, ◌%◌, ◌^◌, ◌<◌, ◌≤◌, ◌==◌, Bool, true, false, ◌&&◌, List, [], ◌∷◌, ◌++◌, length, refl, sym, ap, subst, ◌∙◌, arith}
 use Rattle.std.specs.Prelude.{if◌then◌else◌, nat_lt, All}
 use Rattle.std.specs.List.{list_all}
 use Rattle.std.proofs.lemmas.Bool.{and_parts, ltb-true}
 use Rattle.std.proofs.lemmas.List.Elements.{All-append, All-cons, All-nil}
-use Rattle.std.proofs.lemmas.List.Folds.{list_all-append}
 use Rattle.cp_base.specs.declared.lists.MemRange.{MemRange}
 use Rattle.script_line.specs.Field.{Value, Count, Data, Copied, Covered}
 use Rattle.script_line.specs.Line.{Line, send_line}
-use Rattle.script_line.specs.Reading.{is_built_kind}
 use Rattle.script_line.specs.Sized.{AreSized, IsSized, IsSizedLine, IsSizedRange}
 use Rattle.script_line.specs.declared.kind.LineKind.TheVariants as line
-use Rattle.script_cmds.specs.Kept.{are_built_lines}
 use Rattle.script_cmds.specs.Text.{numbers_line}
 use Rattle.load_maker.specs.Load.{device_lines, host_line, host_part, host_turns, load_lines, ready_lines, seed_word, take_line, turn_lines, turn_takes, word_command, work_lines}
-use Rattle.load_maker.proofs.Fits.{command_built, command_sized, take_sized}
+use Rattle.load_maker.proofs.Fits.{command_sized, take_sized}
 use Rattle.load_maker.proofs.Turns.{own_lines}
 
 -- ---- by a test
@@ -57,62 +54,52 @@ lines_sound : (ls : List Line) → list_all is_sized_line ls ≡ true → AreSiz
 unfolding is_sized_line
 lines_sound ls h = all_of IsSizedLine (λ (l : Line). list_all is_sized l.values) (λ l t. all_of IsSized is_sized value_sound l.values t) ls h
 
--- ---- lines of both facts
+-- ---- lines after lines
 
-pub record IsSound (lines : List Line) : Type 0 where
-  pub sized : AreSized lines
-  pub built : are_built_lines lines ≡ true
+none : AreSized []
+none = All-nil IsSizedLine
 
-none : IsSound []
-none = record { sized = All-nil IsSizedLine; built = refl }
+one : (l : Line) → IsSizedLine l → AreSized (l ∷ [])
+one l s = All-cons IsSizedLine l [] s none
 
-one : (l : Line) → IsSizedLine l → is_built_kind l.kind ≡ true → IsSound (l ∷ [])
-one l s b = record { sized = All-cons IsSizedLine l [] s (All-nil IsSizedLine); built = rw b refl }
+join : (xs ys : List Line) → AreSized xs → AreSized ys → AreSized (xs ++ ys)
+join xs ys p q = All-append IsSizedLine xs ys p q
 
-join : (xs ys : List Line) → IsSound xs → IsSound ys → IsSound (xs ++ ys)
-join xs ys p q = record {
-  sized = All-append IsSizedLine xs ys p.sized q.sized;
-  built = list_all-append (λ (l : Line). is_built_kind l.kind) xs ys ∙ rw (p.built, q.built) refl;
-}
+takes_sized : (number : ℕ) (test : Bool) → AreSized (if test then [] else take_line (number % 16) ∷ [])
+takes_sized number true = none
+takes_sized number false = one (take_line (number % 16)) (take_sized (number % 16) (omega arith))
 
-takes_sound : (number : ℕ) (test : Bool) → IsSound (if test then [] else take_line (number % 16) ∷ [])
-takes_sound number true = none
-takes_sound number false = one (take_line (number % 16)) (take_sized (number % 16) (omega arith)) refl
+turn_sized : (number word : ℕ) → AreSized (turn_lines number (word_command word))
+turn_sized number word =
+    join (turn_takes number) (send_line (number % 16) (word_command word) ∷ []) (takes_sized number (nat_lt number 16))
+    (one (send_line (number % 16) (word_command word)) (command_sized (number % 16) word (omega arith)))
 
-turn_sound : (number word : ℕ) → IsSound (turn_lines number (word_command word))
-turn_sound number word =
-    join (turn_takes number) (send_line (number % 16) (word_command word) ∷ []) (takes_sound number (nat_lt number 16))
-    (one (send_line (number % 16) (word_command word)) (command_sized (number % 16) word (omega arith)) (command_built (number % 16) word))
+own_sized : (number word : ℕ) (test : Bool) → AreSized (if test then turn_lines (number / 4) (word_command word) else [])
+own_sized number word true = turn_sized (number / 4) word
+own_sized number word false = none
 
-own_sound : (number word : ℕ) (test : Bool) → IsSound (if test then turn_lines (number / 4) (word_command word) else [])
-own_sound number word true = turn_sound (number / 4) word
-own_sound number word false = none
+turns_sized : (seed host n : ℕ) → AreSized (host_turns seed host n)
+turns_sized seed host zero = none
+turns_sized seed host (suc n) =
+    join (host_turns seed host n) (own_lines host n (seed_word seed n)) (turns_sized seed host n)
+    (own_sized n (seed_word seed n) (n % 4 == host))
 
-turns_sound : (seed host n : ℕ) → IsSound (host_turns seed host n)
-turns_sound seed host zero = none
-turns_sound seed host (suc n) =
-    join (host_turns seed host n) (own_lines host n (seed_word seed n)) (turns_sound seed host n)
-    (own_sound n (seed_word seed n) (n % 4 == host))
-
-closed : (ls : List Line) → list_all is_sized_line ls ≡ true → are_built_lines ls ≡ true → IsSound ls
-closed ls s b = record { sized = lines_sound ls s; built = b }
-
-part_sound : (seed n host : ℕ) → host < 4 → IsSound (host_part seed n host)
-part_sound seed n host low =
+part_sized : (seed n host : ℕ) → host < 4 → AreSized (host_part seed n host)
+part_sized seed n host low =
     let small : host + 1 < 2 ^ 64 = omega arith in
     join (host_line (host + 1) ∷ []) (host_turns seed host n)
-    (one (host_line (host + 1)) (All-cons IsSized (Count (host + 1)) [] small (All-nil IsSized)) refl) (turns_sound seed host n)
+    (one (host_line (host + 1)) (All-cons IsSized (Count (host + 1)) [] small (All-nil IsSized))) (turns_sized seed host n)
 
-pub begun_sound : IsSound (device_lines ++ ready_lines ++ (numbers_line line.Phase [] ∷ []))
+pub begun_sized : AreSized (device_lines ++ ready_lines ++ (numbers_line line.Phase [] ∷ []))
 unfolding is_sized_line is_sized is_sized_range
-begun_sound = closed (device_lines ++ ready_lines ++ (numbers_line line.Phase [] ∷ [])) refl refl
+begun_sized = lines_sound (device_lines ++ ready_lines ++ (numbers_line line.Phase [] ∷ [])) refl
 
 -- the whole load
-pub load_sound : (seed n : ℕ) → IsSound (load_lines seed n)
-load_sound seed n =
+pub load_sized : (seed n : ℕ) → AreSized (load_lines seed n)
+load_sized seed n =
     let begun = device_lines ++ ready_lines ++ (numbers_line line.Phase [] ∷ []) in
     let p = host_part seed n in
-    let a = join begun (p 0) begun_sound (part_sound seed n 0 (omega arith)) in
-    let b = join (begun ++ p 0) (p 1) a (part_sound seed n 1 (omega arith)) in
-    let c = join (begun ++ p 0 ++ p 1) (p 2) b (part_sound seed n 2 (omega arith)) in
-    join (begun ++ p 0 ++ p 1 ++ p 2) (p 3) c (part_sound seed n 3 (omega arith))
+    let a = join begun (p 0) begun_sized (part_sized seed n 0 (omega arith)) in
+    let b = join (begun ++ p 0) (p 1) a (part_sized seed n 1 (omega arith)) in
+    let c = join (begun ++ p 0 ++ p 1) (p 2) b (part_sized seed n 2 (omega arith)) in
+    join (begun ++ p 0 ++ p 1 ++ p 2) (p 3) c (part_sized seed n 3 (omega arith))
