@@ -135,6 +135,9 @@ bad-rest c plan shows lines rest proper good plain illegal = by_rest (lines-rest
 ended-line : (line : List ℕ) → IsLine line → IsEnded line
 ended-line line l = record { front = l.front; ends = l.ends }
 
+pub each-ended : (lines : List (List ℕ)) → AllByRecursion IsLine lines → AllByRecursion IsEnded lines
+each-ended lines all = every-weaker IsLine IsEnded ended-line lines all
+
 -- a line behind good lines with which no legal history begins
 pub bad-line : (c : Configuration) (plan : List Phase) (shows : List Show) (lines : List (List ℕ)) (line rest : List ℕ) → All IsLine lines → BeginLegally c plan shows lines → IsLine line
     → (BeginLegally c plan shows (lines ++ line ∷ []) → ⊥) → IsFirstBad c plan shows (concat lines ++ (line ++ rest)) (length lines + 1)
@@ -155,7 +158,7 @@ bad-line c plan shows lines line rest proper good is bad =
         legal = legal.legal;
         rest = rest;
         begins = legal.is ∙ sym same;
-        ended = every-All IsEnded (lines ++ line ∷ []) (every-weaker IsLine IsEnded ended-line (lines ++ line ∷ []) both);
+        ended = every-All IsEnded (lines ++ line ∷ []) (each-ended (lines ++ line ∷ []) both);
       });
       counted = omega arith;
       within = subst (λ (ls : List (List ℕ)). length lines + 1 ≤ length ls + 1) (sym all) (omega (arith, length-append lines (line ∷ lines_in rest)));

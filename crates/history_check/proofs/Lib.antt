@@ -5,6 +5,7 @@ pub mod Disjoint
 pub mod Fronts
 pub mod Lists
 pub mod Naming
+pub mod NextBad
 pub mod OneBad
 pub mod OneMore
 pub mod Pairing

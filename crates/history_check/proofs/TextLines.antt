@@ -50,7 +50,7 @@ front-entries sends entries more all = record {
   sized = every-front IsSizedEntry entries more all.sized;
 }
 
-entries-of-beginning : (c : Configuration) (plan : List Phase) (entries : List Entry) → IsSized c plan → IsBeginning c plan entries → AreEntries (sends_of plan) entries
+pub entries-of-beginning : (c : Configuration) (plan : List Phase) (entries : List Entry) → IsSized c plan → IsBeginning c plan entries → AreEntries (sends_of plan) entries
 entries-of-beginning c plan entries sized b =
     let more = beginning-continued c plan entries b in
     front-entries (sends_of plan) entries more.0 (entries-of-legal c plan (entries ++ more.0) sized more.1)
@@ -89,7 +89,7 @@ entry_front k e =
     lettered (codes "#") k ++ lettered (codes " h") e.sent.host ++ lettered (codes " n") e.sent.ordinal ++ lettered (codes " c") e.sent.cid ++ codes " " ++ word_text (word_of e.sent.command) ++ codes " "
     ++ status_text e.answer.status ++ lettered (codes " r=") e.answer.result ++ codes " d=" ++ hex_text e.answer.bytes
 
-entry-ends : (k : ℕ) (e : Entry) → entry_text k e ≡ entry_front k e ++ 10 ∷ []
+pub entry-ends : (k : ℕ) (e : Entry) → entry_text k e ≡ entry_front k e ++ 10 ∷ []
 entry-ends k e = refl
 
 word-lacks : (w : CommandWord) → lacks 10 (word_text w) ≡ true
@@ -138,7 +138,7 @@ status-lacks status.NoMemory = refl
 status-lacks status.Aborted = refl
 
 -- no newline stands in it
-entry-lacks : (k : ℕ) (e : Entry) → k < 2 ^ 64 → IsSizedEntry e → lacks 10 (entry_front k e) ≡ true
+pub entry-lacks : (k : ℕ) (e : Entry) → k < 2 ^ 64 → IsSizedEntry e → lacks 10 (entry_front k e) ≡ true
 entry-lacks k e small sized =
     let n1 : List ℕ = lettered (codes "#") k in
     let n2 : List ℕ = n1 ++ lettered (codes " h") e.sent.host in
@@ -158,19 +158,24 @@ entry-lacks k e small sized =
 
 -- ---- the next line
 
--- the last of the entries that a legal history has behind these
-pub next-line : (c : Configuration) (plan : List Phase) (shows : List Show) (entries : List Entry) (front rest : List ℕ) (history : List Entry) → IsSized c plan → IsBeginning c plan entries
-    → length entries < length (sends_of plan) → lacks 10 front ≡ true → IsLegal c plan history → history_text c shows history ≡ entries_text 1 entries ++ (front ++ 10 ∷ rest)
-    → (next : Entry) × IsBeginning c plan (entries ++ next ∷ []) × (entry_text (length entries + 1) next ≡ front ++ 10 ∷ [])
-next-line c plan shows entries front rest history sized b short plain legal same =
+-- the entry that a legal history has behind these, and its text
+pub record NextEntry (c : Configuration) (plan : List Phase) (entries : List Entry) (behind : List ℕ) : Type 0 where
+  pub next : Entry
+  pub begins : IsBeginning c plan (entries ++ next ∷ [])
+  pub sized : IsSizedEntry next
+  pub rest : List ℕ
+  pub text : entry_text (length entries + 1) next ++ rest ≡ behind
+
+pub next-entry : (c : Configuration) (plan : List Phase) (shows : List Show) (entries : List Entry) (behind : List ℕ) (history : List Entry) → IsSized c plan → IsBeginning c plan entries
+    → length entries < length (sends_of plan) → IsLegal c plan history → history_text c shows history ≡ entries_text 1 entries ++ behind → NextEntry c plan entries behind
+next-entry c plan shows entries behind history sized b short legal same =
     let whole = entries-of-legal c plan history sized legal in
     let count = legal-length c plan history legal in
-    let cut = same-front 1 (sends_of plan) entries history (front ++ 10 ∷ rest) (shows_text (last_state c history).contents shows) (sends-in-order plan)
+    let cut = same-front 1 (sends_of plan) entries history behind (shows_text (last_state c history).contents shows) (sends-in-order plan)
     (entries-of-beginning c plan entries sized b) whole (omega (arith, short, count)) same in
     by_more cut.0 cut.1 whole count
   where
-    by_more : (more : List Entry) → history ≡ entries ++ more → AreEntries (sends_of plan) history → length history ≡ length (sends_of plan)
-        → (next : Entry) × IsBeginning c plan (entries ++ next ∷ []) × (entry_text (length entries + 1) next ≡ front ++ 10 ∷ [])
+    by_more : (more : List Entry) → history ≡ entries ++ more → AreEntries (sends_of plan) history → length history ≡ length (sends_of plan) → NextEntry c plan entries behind
     by_more [] is whole count =
         let e : length history ≡ length entries = ap (λ (xs : List Entry). length xs) (is ∙ append-nil entries) in
         absurd (omega (arith, e, count, short))
@@ -180,24 +185,35 @@ next-line c plan shows entries front rest history sized b short plain legal same
         let all : AreEntries (sends_of plan) (entries ++ next ∷ more) = subst (λ (xs : List Entry). AreEntries (sends_of plan) xs) is whole in
         let shown : List ℕ = shows_text (last_state c history).contents shows in
         let n : ℕ = 1 + length entries in
-        let text : entries_text 1 entries ++ (entry_text n next ++ (entries_text (n + 1) more ++ shown)) ≡ entries_text 1 entries ++ (front ++ 10 ∷ rest) =
+        let text : entries_text 1 entries ++ (entry_text n next ++ (entries_text (n + 1) more ++ shown)) ≡ entries_text 1 entries ++ behind =
         ap (λ (xs : List ℕ). entries_text 1 entries ++ xs) (sym (append_assoc (entry_text n next) (entries_text (n + 1) more) shown))
         ∙ (sym (append_assoc (entries_text 1 entries) (entries_text n (next ∷ more)) shown)
         ∙ (ap (λ (xs : List ℕ). xs ++ shown) (sym (text-append 1 entries (next ∷ more)))
         ∙ (ap (λ (xs : List Entry). entries_text 1 xs ++ shown) (sym is) ∙ same))) in
-        let behind : entry_text n next ++ (entries_text (n + 1) more ++ shown) ≡ front ++ 10 ∷ rest =
-        append_cancel_left (entries_text 1 entries) (entry_text n next ++ (entries_text (n + 1) more ++ shown)) (front ++ 10 ∷ rest) text in
-        let spelled : entry_front n next ++ 10 ∷ (entries_text (n + 1) more ++ shown) ≡ front ++ 10 ∷ rest =
-        sym (append_assoc (entry_front n next) (10 ∷ []) (entries_text (n + 1) more ++ shown))
-        ∙ (ap (λ (xs : List ℕ). xs ++ (entries_text (n + 1) more ++ shown)) (sym (entry-ends n next)) ∙ behind) in
-        let sized_next : IsSizedEntry next = (every-back IsSizedEntry entries (next ∷ more) all.sized).0 in
-        let few : n < 2 ^ 64 = let f = sized.few in omega (arith, f, short) in
-        let cut = same_cut 10 (entry_front n next) front (entries_text (n + 1) more ++ shown) rest (entry-lacks n next few sized_next) plain spelled in
-        let number : n ≡ length entries + 1 = omega arith in (
-          next,
-          front-of-legal c plan (entries ++ next ∷ []) more legal',
-          ap (λ (k : ℕ). entry_text k next) (sym number) ∙ (entry-ends n next ∙ ap (λ (xs : List ℕ). xs ++ 10 ∷ []) cut.0),
-        )
+        let number : length entries + 1 ≡ n = omega arith in
+        record {
+          next = next;
+          begins = front-of-legal c plan (entries ++ next ∷ []) more legal';
+          sized = (every-back IsSizedEntry entries (next ∷ more) all.sized).0;
+          rest = entries_text (n + 1) more ++ shown;
+          text = ap (λ (k : ℕ). entry_text k next ++ (entries_text (n + 1) more ++ shown)) number
+              ∙ append_cancel_left (entries_text 1 entries) (entry_text n next ++ (entries_text (n + 1) more ++ shown)) behind text;
+        }
+
+-- an entry's line, cut at its newline
+pub entry-cut : (k : ℕ) (e : Entry) (rest : List ℕ) → entry_text k e ++ rest ≡ entry_front k e ++ 10 ∷ rest
+entry-cut k e rest = ap (λ (xs : List ℕ). xs ++ rest) (entry-ends k e) ∙ append_assoc (entry_front k e) (10 ∷ []) rest
+
+-- the line of the entry that a legal history has behind these
+pub next-line : (c : Configuration) (plan : List Phase) (shows : List Show) (entries : List Entry) (front rest : List ℕ) (history : List Entry) → IsSized c plan → IsBeginning c plan entries
+    → length entries < length (sends_of plan) → lacks 10 front ≡ true → IsLegal c plan history → history_text c shows history ≡ entries_text 1 entries ++ (front ++ 10 ∷ rest)
+    → (next : Entry) × IsBeginning c plan (entries ++ next ∷ []) × (entry_text (length entries + 1) next ≡ front ++ 10 ∷ [])
+next-line c plan shows entries front rest history sized b short plain legal same =
+    let n = next-entry c plan shows entries (front ++ 10 ∷ rest) history sized b short legal same in
+    let few : length entries + 1 < 2 ^ 64 = let f = sized.few in omega (arith, f, short) in
+    let cut = same_cut 10 (entry_front (length entries + 1) n.next) front n.rest rest (entry-lacks (length entries + 1) n.next few n.sized) plain
+    (sym (entry-cut (length entries + 1) n.next n.rest) ∙ n.text) in
+    (n.next, n.begins, entry-ends (length entries + 1) n.next ∙ ap (λ (xs : List ℕ). xs ++ 10 ∷ []) cut.0)
 
 -- a history that is legal is the one whose text begins with its entries
 pub whole-history : (c : Configuration) (plan : List Phase) (shows : List Show) (one other : List Entry) (rest : List ℕ) → IsSized c plan → IsLegal c plan one → IsLegal c plan other

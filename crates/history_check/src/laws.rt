@@ -47,6 +47,19 @@ pub fn bad_line_stands_behind_good_ones()
         → IsFirstBad c plan shows (concat lines ++ rest) (length lines + 1) }
 {}
 
+/// Where consistent entries have an entry each for some commands of a plan, the first bad line is the next one
+/// exactly where it is the line of no entry that is consistent behind them: a line of another text, a rest that no
+/// newline ends, or none at all.
+pub fn bad_line_is_that_of_no_next_entry()
+    ensures other { (c : _) (plan : _) (shows : _) (entries : List Entry) (line rest : List ℕ)
+        → IsSized c plan → IsBeginning c plan entries → length entries < length (sends_of plan) → lacks 10 line ≡ true
+        → ((next : _) → IsBeginning c plan (entries ++ next ∷ []) → entry_text (length entries + 1) next ≡ line ++ 10 ∷ [] → ⊥)
+        → IsFirstBad c plan shows (entries_text 1 entries ++ (line ++ 10 ∷ rest)) (length entries + 1) }
+    ensures missing { (c : _) (plan : _) (shows : _) (entries : List Entry) (rest : List ℕ)
+        → IsSized c plan → IsBeginning c plan entries → length entries < length (sends_of plan) → lacks 10 rest ≡ true
+        → IsFirstBad c plan shows (entries_text 1 entries ++ rest) (length entries + 1) }
+{}
+
 /// A text has one first bad line at most.
 pub fn first_bad_line_is_one()
     ensures { (c : _) (plan : _) (shows : _) (text : _) (one other : _) → IsFirstBad c plan shows text one → IsFirstBad c plan shows text other → one ≡ other }
