@@ -1,5 +1,5 @@
 -- Of the commands that are left one can be sent at once: the first in the order of the text.
-use Rattle.std.proofs.Common.{◌≡◌, ℕ, ◌<◌, ◌==◌, Bool, true, false, ◌&&◌, ◌||◌, ◌⊎◌, inl, inr, List, [], ◌∷◌, cond, refl, sym, ap, subst, ◌∙◌, arith}
+use Rattle.std.proofs.Common.{◌≡◌, ◌<◌, ◌==◌, Bool, true, false, ◌&&◌, ◌||◌, inl, inr, List, [], ◌∷◌, refl, sym, ap, subst, ◌∙◌, arith}
 use Rattle.std.specs.List.{AllByRecursion, list_any}
 use Rattle.std.proofs.lemmas.Bool.{eqb-true, eq-eqb, false≢true}
 use Rattle.script_cmds.specs.declared.item.Phase.{Phase}
@@ -7,7 +7,6 @@ use Rattle.history_model.specs.Sent.{Sent, TakenBefore, sends_of}
 use Rattle.history_model.proofs.Every.{Pairwise, every-All, every-weaker}
 use Rattle.history_model.proofs.OneHistory.{Among, every-among, unique}
 use Rattle.history_model.proofs.Order.{IsAmongEarlier, Precedes, none-in-order, not-taken-before, phases-in-order, sends-in-order}
-use Rattle.history_check.proofs.Lists.{among-itself}
 
 -- a command takes none that is not sent yet, so not itself
 abbrev pub TakesEarlier : Sent → Type 0
@@ -86,11 +85,14 @@ some-next (s ∷ ss) left first order earlier all some =
         → (x : Sent) × Among (s ∷ ss) x × IsNext left x
     by_test true e later =
         let found = any-true (same-name s) left e in
-        let is : found.0 ≡ s = is-here found.0 found.2 (every-among (Among (s ∷ ss)) left found.0 all found.1) in
-        (s, inl refl, record {
-          among = subst (λ (x : Sent). Among left x) is found.1;
-          ready = every-weaker (Among (s ∷ ss)) (λ other. TakenBefore other s → ⊥) not-first left all;
-        })
+        let is : found.0 ≡ s = is-here found.0 found.2 (every-among (Among (s ∷ ss)) left found.0 all found.1) in (
+          s,
+          inl refl,
+          record {
+            among = subst (λ (x : Sent). Among left x) is found.1;
+            ready = every-weaker (Among (s ∷ ss)) (λ other. TakenBefore other s → ⊥) not-first left all;
+          },
+        )
     by_test false e later =
         let h = later (all-behind left (any-false (same-name s) left e) all) in
         (h.0, inr h.1, h.2)

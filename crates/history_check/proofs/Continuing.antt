@@ -1,15 +1,14 @@
 -- Consistent entries go on to a legal history: a withdrawn command follows its Abort, and after that each command
 -- that is left is carried out in the order of the text.
-use Rattle.std.proofs.Common.{◌≡◌, ℕ, zero, suc, ◌+◌, ◌<◌, ◌⊎◌, inl, inr, List, [], ◌∷◌, ◌++◌, length, map, Some, refl, sym, ap, subst, ◌∙◌, arith, append_assoc, append-nil}
-use Rattle.std.specs.List.{All, AllByRecursion, AllPairs}
+use Rattle.std.proofs.Common.{◌≡◌, ℕ, zero, suc, ◌⊎◌, inl, inr, List, [], ◌∷◌, ◌++◌, length, refl, sym, ap, subst, ◌∙◌, arith, append_assoc, append-nil}
+use Rattle.std.specs.List.{All, AllByRecursion}
 use Rattle.std.specs.List.Sorted.{IsPermutation}
 use Rattle.std.proofs.lemmas.Bool.{false≢true}
 use Rattle.std.proofs.lemmas.List.{map-append}
 use Rattle.std.proofs.lemmas.List.Sorted.{IsPermutation-append_right, IsPermutation-sym, IsPermutation-trans, length_permutation}
-use Rattle.cp_base.specs.Answer.{Answer, only_status}
+use Rattle.cp_base.specs.Answer.{only_status}
 use Rattle.cp_base.specs.Configuration.{Configuration}
 use Rattle.cp_base.specs.declared.commands.Command.{Command}
-use Rattle.cp_base.specs.declared.commands.Command.TheVariants as command
 use Rattle.cp_base.specs.declared.replies.Status.{Status}
 use Rattle.cp_base.specs.declared.replies.Status.TheVariants as status
 use Rattle.script_cmds.specs.declared.item.Phase.{Phase}
@@ -17,13 +16,13 @@ use Rattle.device_model.specs.State.{State, opening}
 use Rattle.device_model.specs.Step.{DeviceStep, outcome_of}
 use Rattle.device_model.proofs.Told.{IsSettled, is_settled, outcome_tells}
 use Rattle.history_model.specs.Entry.{Entry}
-use Rattle.history_model.specs.Legal.{HasWithdrawn, IsLegal, Replays, StandsBehind, after_entry, after_history}
+use Rattle.history_model.specs.Legal.{HasWithdrawn, IsLegal, Replays, after_entry, after_history}
 use Rattle.history_model.specs.Sent.{Sent, TakenBefore, sends_of}
 use Rattle.history_model.proofs.Every.{Pairwise, every-All, every-append, every-of-All, every-weaker, pairwise-AllPairs, pairwise-append}
 use Rattle.history_model.proofs.OneHistory.{Among, every-among}
 use Rattle.history_model.proofs.Settled.{settled}
 use Rattle.history_check.specs.Beginning.{ArePairedSoFar, IsBeginning, MayFollow, NamesOneOf, sents_of}
-use Rattle.history_check.proofs.Choosing.{IsNext, next-of}
+use Rattle.history_check.proofs.Choosing.{next-of}
 use Rattle.history_check.proofs.Lists.{among-append-left, among-append-right, among-itself, contains-among, every-moved, pairwise-of-AllPairs, take-out}
 use Rattle.history_check.proofs.Naming.{before-named}
 use Rattle.history_check.proofs.Pairing.{IsClosed, IsOpen, all-paired, more-paired, open-or-closed}

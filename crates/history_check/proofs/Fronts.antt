@@ -1,6 +1,6 @@
 -- The first entries of a legal history are consistent with its plan.
-use Rattle.std.proofs.Common.{◌≡◌, List, [], ◌∷◌, ◌++◌, map, refl, sym, ap, subst}
-use Rattle.std.specs.List.{AllByRecursion, AllPairs}
+use Rattle.std.proofs.Common.{List, [], ◌∷◌, ◌++◌, subst}
+use Rattle.std.specs.List.{AllByRecursion}
 use Rattle.std.specs.List.Sorted.{IsPermutation}
 use Rattle.std.proofs.lemmas.List.{map-append}
 use Rattle.cp_base.specs.Configuration.{Configuration}
@@ -11,7 +11,7 @@ use Rattle.history_model.specs.Legal.{IsLegal, Replays, after_entry}
 use Rattle.history_model.specs.Sent.{Sent, sends_of}
 use Rattle.history_model.proofs.Every.{Pairwise, every-weaker}
 use Rattle.history_check.specs.Beginning.{IsBeginning, sents_of}
-use Rattle.history_check.proofs.Continuing.{Leaves, MayPrecede, NotBefore, beginning-of}
+use Rattle.history_check.proofs.Continuing.{MayPrecede, NotBefore, beginning-of}
 use Rattle.history_check.proofs.Lists.{every-of-map, pairwise-across, pairwise-front, pairwise-of-AllPairs}
 use Rattle.history_check.proofs.Pairing.{front-paired}
 

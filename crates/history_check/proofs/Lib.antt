@@ -2,6 +2,7 @@ pub mod BadLines
 pub mod Choosing
 pub mod Continuing
 pub mod Disjoint
+pub mod Ends
 pub mod Fronts
 pub mod Lists
 pub mod Naming

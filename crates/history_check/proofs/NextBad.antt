@@ -1,7 +1,7 @@
 -- Behind consistent entries: a line that is that of no consistent next entry, a rest that no newline ends, and
 -- nothing at all are the first bad line.
-use Rattle.std.proofs.Common.{◌≡◌, ℕ, ◌+◌, ◌<◌, ◌≤◌, ◌^◌, true, List, [], ◌∷◌, ◌++◌, length, refl, sym, ap, subst, ◌∙◌, arith, append_assoc, append-nil}
-use Rattle.std.specs.List.{All, AllByRecursion, concat}
+use Rattle.std.proofs.Common.{◌≡◌, ℕ, ◌+◌, ◌<◌, ◌^◌, true, List, [], ◌∷◌, ◌++◌, length, refl, sym, ap, subst, ◌∙◌, arith, append_assoc, append-nil}
+use Rattle.std.specs.List.{AllByRecursion, concat}
 use Rattle.std.proofs.lemmas.Bool.{eq-eqb}
 use Rattle.std.proofs.lemmas.List.Folds.{concat-append}
 use Rattle.cp_base.specs.Configuration.{Configuration}
@@ -10,10 +10,10 @@ use Rattle.cp_text.proofs.Joined.{lacks_first}
 use Rattle.script_cmds.specs.declared.item.Phase.{Phase}
 use Rattle.script_cmds.specs.declared.item.Show.{Show}
 use Rattle.history_model.specs.Entry.{Entry}
-use Rattle.history_model.specs.Legal.{IsLegal, last_state}
-use Rattle.history_model.specs.Sent.{Sent, sends_of}
+use Rattle.history_model.specs.Legal.{last_state}
+use Rattle.history_model.specs.Sent.{sends_of}
 use Rattle.history_model.specs.Sized.{IsSizedEntry}
-use Rattle.history_model.specs.Text.{entries_text, entry_text, history_text, shows_text}
+use Rattle.history_model.specs.Text.{entries_text, entry_text, shows_text}
 use Rattle.history_model.proofs.Every.{every-All}
 use Rattle.history_check.specs.Beginning.{IsBeginning}
 use Rattle.history_check.specs.FirstBad.{BeginLegally, IsEnded, IsFirstBad, IsLegalText, IsLine}

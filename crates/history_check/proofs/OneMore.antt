@@ -1,6 +1,6 @@
 -- One more entry behind consistent ones.
-use Rattle.std.proofs.Common.{◌≡◌, ℕ, ◌⊎◌, inl, inr, List, [], ◌∷◌, ◌++◌, map, refl, sym, ap, subst, ◌∙◌, append_assoc}
-use Rattle.std.specs.List.{All, AllByRecursion, Contains}
+use Rattle.std.proofs.Common.{◌≡◌, ◌⊎◌, inl, inr, List, [], ◌∷◌, ◌++◌, refl, sym, ap, subst, ◌∙◌, append_assoc}
+use Rattle.std.specs.List.{AllByRecursion, Contains}
 use Rattle.std.specs.List.Sorted.{IsPermutation}
 use Rattle.std.proofs.lemmas.List.{map-append}
 use Rattle.std.proofs.lemmas.List.Sorted.{IsPermutation-sym}
@@ -9,9 +9,9 @@ use Rattle.script_cmds.specs.declared.item.Phase.{Phase}
 use Rattle.device_model.specs.State.{State, opening}
 use Rattle.device_model.specs.Step.{DeviceStep}
 use Rattle.history_model.specs.Entry.{Entry}
-use Rattle.history_model.specs.Legal.{HasWithdrawn, IsLegal, Replays, after_entry, after_history, last_state}
+use Rattle.history_model.specs.Legal.{IsLegal, Replays, after_entry, after_history}
 use Rattle.history_model.specs.Sent.{Sent, TakenBefore, sends_of}
-use Rattle.history_model.proofs.Every.{every-All, every-of-All, every-weaker}
+use Rattle.history_model.proofs.Every.{every-All, every-of-All}
 use Rattle.history_model.proofs.OneHistory.{Among, every-among}
 use Rattle.history_check.specs.Beginning.{IsBeginning, MayComeNext, NamesNew, NamesOneOf, sents_of}
 use Rattle.history_check.proofs.Choosing.{TakesEarlier, all-take-earlier, not-itself}

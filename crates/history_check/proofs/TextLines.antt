@@ -1,13 +1,12 @@
 -- The lines of a text with which a legal history begins are those of its entries.
-use Rattle.std.proofs.Common.{◌≡◌, ℕ, zero, suc, ◌+◌, ◌<◌, ◌≤◌, ◌^◌, true, ◌⊎◌, inl, inr, List, [], ◌∷◌, ◌++◌, length, map, refl, sym, ap, subst, ◌∙◌, arith, append_assoc, append-nil}
-use Rattle.std.specs.Prelude.{codes, decimal}
-use Rattle.std.specs.List.{All, AllByRecursion}
+use Rattle.std.proofs.Common.{◌≡◌, ℕ, ◌+◌, ◌<◌, ◌≤◌, ◌^◌, true, inl, List, [], ◌∷◌, ◌++◌, length, refl, sym, ap, subst, ◌∙◌, arith, append_assoc, append-nil}
+use Rattle.std.specs.Prelude.{codes}
+use Rattle.std.specs.List.{AllByRecursion}
 use Rattle.std.proofs.lemmas.List.{append_cancel_left, length-append, length-map}
 use Rattle.std.proofs.lemmas.List.Elements.{All-contains_itself}
 use Rattle.std.proofs.lemmas.List.Sorted.{length_permutation}
 use Rattle.cp_base.specs.Configuration.{Configuration}
 use Rattle.cp_base.specs.Words.{word_of, word_text}
-use Rattle.cp_base.specs.declared.limits.TheConstants.{MAX_BUDGET}
 use Rattle.cp_base.specs.declared.replies.Status.{Status}
 use Rattle.cp_base.specs.declared.replies.Status.TheVariants as status
 use Rattle.cp_base.specs.declared.words.CommandWord.{CommandWord}
@@ -17,13 +16,12 @@ use Rattle.cp_text.specs.Parts.{lacks}
 use Rattle.cp_text.proofs.Joined.{decimal_lacks, hex_lacks, lacks_both, same_cut}
 use Rattle.script_cmds.specs.declared.item.Phase.{Phase}
 use Rattle.script_cmds.specs.declared.item.Show.{Show}
-use Rattle.device_model.specs.State.{State}
 use Rattle.history_model.specs.Entry.{Entry}
 use Rattle.history_model.specs.Legal.{IsLegal, last_state}
 use Rattle.history_model.specs.Sent.{Sent, sends_of}
-use Rattle.history_model.specs.Sized.{IsSizedEntry, IsSizedSend}
+use Rattle.history_model.specs.Sized.{IsSizedEntry}
 use Rattle.history_model.specs.Text.{entries_text, entry_text, history_text, lettered, shows_text, status_text}
-use Rattle.history_model.proofs.Every.{Pairwise, every-All, every-of-All}
+use Rattle.history_model.proofs.Every.{Pairwise, every-of-All}
 use Rattle.history_model.proofs.OneHistory.{Among, each-among, line-tells, same-entry, unique}
 use Rattle.history_model.proofs.Order.{Precedes, sends-in-order}
 use Rattle.history_model.proofs.SizedHistories.{history_sized}
@@ -56,7 +54,7 @@ entries-of-beginning c plan entries sized b =
     front-entries (sends_of plan) entries more.0 (entries-of-legal c plan (entries ++ more.0) sized more.1)
 
 -- how many entries a legal history has
-legal-length : (c : Configuration) (plan : List Phase) (history : List Entry) → IsLegal c plan history → length history ≡ length (sends_of plan)
+pub legal-length : (c : Configuration) (plan : List Phase) (history : List Entry) → IsLegal c plan history → length history ≡ length (sends_of plan)
 legal-length c plan history legal =
     sym (length-map history (λ (e : Entry). e.sent)) ∙ sym (length_permutation (sents_of history) (sends_of plan) legal.each_once)
 

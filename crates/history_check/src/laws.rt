@@ -11,8 +11,11 @@ ghost use Rattle.history_check.specs.FirstBad.{BeginLegally, IsFirstBad, IsLegal
 ghost use Rattle.history_check.specs.SizedPlan.{IsSized};
 
 /// Entries begin a legal history of a plan exactly where they are consistent with it: whatever a device has
-/// answered so far, it can go on to a legal history, and nothing but a consistent beginning leads to one.
+/// answered so far, it can go on to a legal history, and nothing but a consistent beginning leads to one. None at
+/// all are consistent, and where all commands have an entry they are a legal history.
 pub fn consistent_entries_go_on()
+    ensures none { (c : _) (plan : _) → IsBeginning c plan [] }
+    ensures all { (c : _) (plan : _) (entries : List Entry) → IsBeginning c plan entries → length entries ≡ length (sends_of plan) → IsLegal c plan entries }
     ensures goes_on { (c : _) (plan : _) (entries : List Entry) → IsBeginning c plan entries → (more : List Entry) × IsLegal c plan (entries ++ more) }
     ensures begins { (c : _) (plan : _) (entries more : List Entry) → IsLegal c plan (entries ++ more) → IsBeginning c plan entries }
 {}
