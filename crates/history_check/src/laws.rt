@@ -50,8 +50,8 @@ pub fn bad_line_stands_behind_good_ones()
         → IsFirstBad c plan shows (concat lines ++ rest) (length lines + 1) }
 {}
 
-/// Where consistent entries have an entry each for some commands of a plan, the first bad line is the next one
-/// exactly where it is the line of no entry that is consistent behind them: a line of another text, a rest that no
+/// Behind consistent entries of some commands of a plan, but not of all, the first bad line is the next one
+/// where it is the line of no entry that is consistent behind them: a line of another text, a rest that no
 /// newline ends, or none at all.
 pub fn bad_line_is_that_of_no_next_entry()
     ensures other { (c : _) (plan : _) (shows : _) (entries : List Entry) (line rest : List ℕ)
