@@ -246,8 +246,9 @@ def wild_programs(count=400):
     opcodes = (0x07, 0x0F, 0x15, 0x1D, 0x05, 0x61, 0x63, 0x79, 0x7B, 0x85, 0x95, 0xB7, 0xBF, 0xC3, 0xDB, 0xD4, 0x18)
     lines = ["mem 1 bytes=256", "phase", "host 1", "send 1 setcreate ranges=1:0:64,1:64:64:r", "take 1"]
     for _ in range(count):
-        code = b"".join(bytes([chance.choice(opcodes), chance.randrange(11) | chance.randrange(11) << 4, chance.randrange(8), 0,
-                               chance.randrange(16), 0, 0, 0]) for _ in range(chance.randrange(1, 12)))
+        code = b"".join(bytes([chance.choice(opcodes), chance.randrange(11) | chance.randrange(11) << 4])
+                        + chance.randrange(-4, 8).to_bytes(2, "little", signed=True) + chance.randrange(16).to_bytes(4, "little")
+                        for _ in range(chance.randrange(1, 12)))
         lines += [f"send 1 load slot=0 size={len(code) + 8} at=0 data={code.hex()}9500000000000000", "take 1", "send 1 activate slot=0", "take 1",
                   "send 1 execute slot=0 set=1 p1=0 p2=64 budget=500", "take 1", "send 1 deactivate slot=0", "take 1", "send 1 unload slot=0", "take 1"]
     lines += ["show mem 1 at=64 len=192"]
