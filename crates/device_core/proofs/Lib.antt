@@ -1,3 +1,4 @@
 pub mod Restaged
 pub mod Stands
 pub mod Told
+pub mod Done

@@ -1,4 +1,5 @@
 pub mod AtOnce
+pub mod Gives
 pub mod Keep
 pub mod Reading
 pub mod Recorded

@@ -1,14 +1,19 @@
 //! The core of the device, the state of one turn: it stands for its trail, to which each call adds one event or none.
 #![tactic(auto)]
 
+mod answers;
 mod asked;
 mod checks;
 mod device;
 mod doing;
 mod events;
 mod keep;
+mod picking;
 mod queues;
 mod tables;
+#[cfg(test)]
+mod tests;
 
+pub use answers::{EntryRef, Picked};
 pub use device::{Core, SubmitRefused};
 pub use events::Event;

@@ -1,0 +1,8 @@
+pub mod Copying
+pub mod Covered
+pub mod Ending
+pub mod Executing
+pub mod Holding
+pub mod Items
+pub mod Marking
+pub mod Working

@@ -1,0 +1,4 @@
+pub mod Held
+pub mod Own
+pub mod Windows
+pub mod Works
