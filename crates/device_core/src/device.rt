@@ -2,7 +2,7 @@
 ghost use Rattle.std.specs.Prelude.{◌≡◌, ◌≤◌, [], ℕ, None, Ok, Some, IsSome, IsSomeAnd, IsTrue, length, if◌then◌else◌, IfErr, IfOk, OnErr, OnOk, MatchResult, option_copied, option_map, slice_get};
 ghost use Rattle.std.specs.Arc.{arc_value};
 ghost use Rattle.cp_base.specs.Answer.{answer_of};
-ghost use Rattle.cp_base.specs.Buffer.{Appended};
+ghost use Rattle.cp_base.specs.Growth.{Appended};
 ghost use Rattle.cp_base.specs.Contents.{bytes_in};
 ghost use Rattle.cp_base.specs.Sharing.{IsIn};
 ghost use Rattle.cp_base.specs.declared.region.SpaceId.{SpaceId};

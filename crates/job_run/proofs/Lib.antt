@@ -5,4 +5,3 @@ pub mod Executing
 pub mod Holding
 pub mod Items
 pub mod Marking
-pub mod Working
