@@ -35,6 +35,7 @@ pub struct SubmitRefused {
 /// trail of all events.
 #[derive(Debug, Drop)]
 pub struct Core {
+    alloc: Global,
     config: Config,
     commands: u32,
     trail: Vec<Event>,
@@ -63,6 +64,7 @@ impl Core {
         let keep = Keep::new(alloc, config, commands)?;
         let trail = Vec::with_capacity(alloc, 5 * commands as usize + 1)?;
         Ok(Core {
+            alloc,
             config: *config,
             commands,
             trail,
@@ -192,7 +194,7 @@ impl Core {
     /// A party without an open claim turns to the command number `skip`, from 0 in order of submission, of those that may
     /// be picked. One that moves bytes and passes its checks is claimed, where there is the memory for it; each other one is
     /// done at once.
-    pub fn claim(&mut self, alloc: Global, by: u32, skip: u32) -> Picked
+    pub fn claim(&mut self, by: u32, skip: u32) -> Picked
         requires party { IsParty by }
         requires idle { IsTrue (is_idle (world_in self.old) by) }
         ensures gives { Gives self.old by skip result self.new }
