@@ -16,6 +16,8 @@ ghost use Rattle.device_core.specs.Recorded.{Appends, told_event, with_event};
 
 use crate::Event;
 use crate::answers::{EntryRef, Picked};
+use crate::entries::{Withdrawn, entry_in};
+use crate::finishing::bring_home;
 use crate::keep::Keep;
 use cp_base::{ByteRange, Bytes, Command, Config, NoMemory, SpaceId};
 use job_run::Worked;
@@ -40,6 +42,7 @@ pub struct Core {
     commands: u32,
     trail: Vec<Event>,
     keep: Keep,
+    withdrawn: Withdrawn,
 }
 
 impl Model for Core {
@@ -69,6 +72,7 @@ impl Core {
             commands,
             trail,
             keep,
+            withdrawn: Withdrawn::new(alloc),
         })
     }
 
@@ -205,11 +209,13 @@ impl Core {
 
     /// A party finishes the open claim that it made at a place of the trail: the bytes come home, and the reply is posted.
     pub fn finish(&mut self, by: u32, claim: u32, worked: Worked)
-        requires { IsSomeAnd (claim_at (world_in self.old).claims claim) (λ open. HasWorked self.old by worked open) }
+        requires { IsSomeAnd (claim_at (world_in self.old).claims claim) (λ opened. HasWorked self.old by worked opened) }
         ensures finished { Appends self.old self.new (event.Finish by claim (answer_of worked.reply)) }
         ensures lawful { IsLawful self.new.config self.new.commands self.new.trail }
     {
-        loop {}
+        let Worked { pieces, reply } = worked;
+        bring_home(&mut self.keep, &self.trail, claim, pieces);
+        self.trail.push_reserved(Event::Finish { by, claim, reply });
     }
 
     /// The entry of a number of the history, from 0. `None` where the history does not go so far.
@@ -217,7 +223,8 @@ impl Core {
         ensures { option_map ended_as_shown result
             ≡ option_map ended_by (slice_get (history_of self.now.config self.now.trail) k) }
     {
-        loop {}
+        let entry = self.keep.entries.get(k as usize)?;
+        entry_in(&self.trail, self.withdrawn.reply(), *entry)
     }
 
     /// Appends the bytes of a range, all of which are at home, to a buffer that has room for them. It takes no
@@ -228,6 +235,6 @@ impl Core {
         requires room { range.now.len ≤ out.old.spare }
         ensures { Appended out.old out.new (bytes_in (world_in self.now).state.contents range.now) }
     {
-        loop {}
+        self.keep.store.append(range, out);
     }
 }

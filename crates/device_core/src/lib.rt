@@ -6,14 +6,18 @@ mod asked;
 mod checks;
 mod device;
 mod doing;
+mod entries;
 mod events;
+mod finishing;
 mod keep;
 mod picking;
 mod queues;
 mod tables;
 #[cfg(test)]
 mod tests;
+mod working;
 
 pub use answers::{EntryRef, Picked};
 pub use device::{Core, SubmitRefused};
 pub use events::Event;
+pub use working::run_leaves_what_a_claim_comes_to;
