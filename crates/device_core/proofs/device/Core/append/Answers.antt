@@ -22,6 +22,6 @@ returns c =
     let k = c.self.inside in
     let there = λ (s : SpaceId) (o : ℕ) (inside : IsIn c.args.range.now s o).
     subst (λ (d : Recorded). IsSome (home d.config (world_of d.config d.trail) s o)) (sym c.self.view_is) (c.requires.home s o inside) in
-    subst (λ (d : Recorded). Appended _ _ (bytes_in (world_of d.config d.trail).state.contents c.args.range.now)) c.self.view_is
-    (subst (λ (xs : List ℕ). Appended _ _ xs)
+    subst (λ (d : Recorded). Appended c.args.out.now c.append.new.out (bytes_in (world_of d.config d.trail).state.contents c.args.range.now)) c.self.view_is
+    (subst (λ (xs : List ℕ). Appended c.args.out.now c.append.new.out xs)
     (shown k.config k.commands k.trail.items (vec_capacity k.trail) k.keep c.args.range.now _ c.self.invariant there c.append.ensures.bytes) c.append.ensures.appended)
