@@ -64,13 +64,7 @@ fn check_execute(
 }
 
 // The checks of a copy.
-fn check_copied(
-    alloc: Global,
-    config: &Config,
-    slots: &Slots,
-    sets: &Sets,
-    command: &Command,
-) -> Result<(), Status>
+fn check_copied(alloc: Global, config: &Config, slots: &Slots, sets: &Sets, command: &Command) -> Result<(), Status>
     requires { IsSome (copy_of config.now command.now) }
     ensures { MatchResult result
         (λ _. first_failing (checks_of config.now (tables_of slots.now sets.now) command.now) ≡ None)
@@ -114,10 +108,7 @@ pub(crate) fn check_moving(
             return check_copied(alloc, config, slots, sets, command);
         }
         Command::Execute {
-            slot,
-            set,
-            budget,
-            ..
+            slot, set, budget, ..
         } => return check_execute(config, slots, sets, *slot, *set, *budget),
         Command::SetCreate { .. }
         | Command::SetDelete { .. }

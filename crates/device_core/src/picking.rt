@@ -1,0 +1,1 @@
+// Which commands may be picked.
