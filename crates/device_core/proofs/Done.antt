@@ -30,7 +30,7 @@ use Rattle.core_model.proofs.Allowing.{do-allowed, waits-asked}
 use Rattle.core_model.proofs.Doing.{do-stands}
 use Rattle.core_model.proofs.Numbers.{all-submits, asked-host}
 use Rattle.core_model.proofs.Queueing.{places-differ, post-under, restaged-differ, waiting-under, withdrawn-named}
-use Rattle.trail_model.proofs.Submits.{eqb-same}
+use Rattle.trail_model.proofs.Submits.{none-some}
 use Rattle.device_core.specs.AtOnce.{IsDoneAtOnce}
 use Rattle.device_core.specs.Keep.{CanPost, HasRoom, Holds, IsQueue, KeepsRoom, commands_in, parts_of, queue_of}
 use Rattle.device_core.specs.Recorded.{trail_of}
@@ -147,21 +147,13 @@ did-stand c commands events spots by i posted x asked old mid new slots sets abo
 
 -- two commands that wait, one of which was submitted before the other, are two
 two-wait : (xs : List WaitingSubmit) (i j : ℕ) (x y : WaitingSubmit) → slice_get xs i ≡ Some x → slice_get xs j ≡ Some y → y.sent < x.sent → 2 ≤ length xs
-two-wait xs i j x y e f earlier =
-    let a : i < length xs = slice_get_within xs i x e in
-    let b : j < length xs = slice_get_within xs j y f in
-    by_place (i == j) refl
-  where
-    by_place : (same : Bool) → (i == j) ≡ same → 2 ≤ length xs
-    by_place true h =
-        let place : i ≡ j = eqb-same i j h in
-        let one : Some x ≡ Some y = sym e ∙ (ap (λ (k : ℕ). slice_get xs k) place ∙ f) in
-        let sents : x.sent ≡ y.sent = ap (λ (w : WaitingSubmit). w.sent) (same_Some x y one) in
-        absurd (omega (arith, earlier, sents))
-    by_place false h =
-        let a : i < length xs = slice_get_within xs i x e in
-        let b : j < length xs = slice_get_within xs j y f in
-        omega arith
+two-wait [] i j x y e f earlier = absurd (none-some x e)
+two-wait (z ∷ []) zero zero x y e f earlier =
+    let sents : x.sent ≡ y.sent = ap (λ (w : WaitingSubmit). w.sent) (same_Some x y (sym e ∙ f)) in
+    absurd (omega (arith, earlier, sents))
+two-wait (z ∷ []) zero (suc j) x y e f earlier = absurd (none-some y f)
+two-wait (z ∷ []) (suc i) j x y e f earlier = absurd (none-some x e)
+two-wait (z ∷ w ∷ xs) i j x y e f earlier = omega arith
 
 some-with : {A : Type 0} (P : A → Type 0) (o : Option A) → IsSome o → ((a : A) → o ≡ Some a → P a) → IsSomeAnd o P
 some-with P None h f = absurd (true≢false (sym h))

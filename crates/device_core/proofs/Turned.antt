@@ -77,15 +77,14 @@ turned-to c commands events spots skip x k held picked =
 
 got-filter : {A : Type 0} (P : A → Bool) (xs : List A) (i : ℕ) (x : A) → slice_get (filter P xs) i ≡ Some x → (j : ℕ) × (slice_get xs j ≡ Some x) × (P x ≡ true)
 got-filter P [] i x e = absurd (none-some x e)
-got-filter P (y ∷ ys) i x e = by_test (P y) refl i e
+got-filter P (y ∷ ys) i x e = by_test (P y) refl i e (λ k h. got-filter P ys k x h)
   where
-    later : (k : ℕ) → slice_get (filter P ys) k ≡ Some x → (j : ℕ) × (slice_get (y ∷ ys) j ≡ Some x) × (P x ≡ true)
-    later k h = (let more = got-filter P ys k x h in (suc more.0, more.1, more.2))
-
-    by_test : (b : Bool) → P y ≡ b → (k : ℕ) → slice_get (cond b (y ∷ filter P ys) (filter P ys)) k ≡ Some x → (j : ℕ) × (slice_get (y ∷ ys) j ≡ Some x) × (P x ≡ true)
-    by_test false f k h = later k h
-    by_test true f zero h = (zero, h, subst (λ (z : A). P z ≡ true) (some-same y x h) f)
-    by_test true f (suc k) h = later k h
+    by_test : (b : Bool) → P y ≡ b → (k : ℕ) → slice_get (cond b (y ∷ filter P ys) (filter P ys)) k ≡ Some x
+        → ((n : ℕ) → slice_get (filter P ys) n ≡ Some x → (j : ℕ) × (slice_get ys j ≡ Some x) × (P x ≡ true))
+        → (j : ℕ) × (slice_get (y ∷ ys) j ≡ Some x) × (P x ≡ true)
+    by_test false f k h more = (let next = more k h in (suc next.0, next.1, next.2))
+    by_test true f zero h more = (zero, h, subst (λ (z : A). P z ≡ true) (some-same y x h) f)
+    by_test true f (suc k) h more = (let next = more k h in (suc next.0, next.1, next.2))
 
 -- what may be picked waits
 pub picked-waits : (c : Configuration) (events : List KeptEvent) (count skip : ℕ) (x : WaitingSubmit) (k : Keep)

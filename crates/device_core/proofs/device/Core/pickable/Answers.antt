@@ -1,10 +1,12 @@
-use Rattle.std.proofs.Common.{◌≡◌, arith, length, rules, subst}
+use Rattle.std.proofs.Common.{◌≡◌, List, length, rules, subst}
 use Rattle.std.specs.Vec.{vec_capacity}
 use Rattle.trail_model.specs.Lawful.{world_of}
 use Rattle.trail_model.specs.World.{pickable_among}
 use Rattle.core_model.proofs.Numbers.{all-submits}
+use Rattle.core_model.specs.Picking.{pickable_waiting}
 use Rattle.device_core.specs.Keep.{parts_of}
 use Rattle.device_core.specs.Recorded.{Recorded, trail_of}
+use Rattle.device_core.specs.declared.events.Event.{Event as KeptEvent}
 use Rattle.device_core.proofs.Turned.{count-kept, kept-fits}
 use Rattle.device_core.proofs.device.Core.pickable.Goals as goal
 
@@ -25,4 +27,6 @@ pub returns : goal.returns
 returns c =
     let k = c.self.inside in
     subst (λ (d : Recorded). c.count_pickable.result ≡ length (pickable_among d.config (world_of d.config d.trail))) c.self.view_is
-    (count-kept k.config k.commands k.trail.items (vec_capacity k.trail) c.count_pickable.result k.keep c.self.invariant (c.count_pickable.ensures.count (length k.trail.items)))
+    (count-kept k.config k.commands k.trail.items (vec_capacity k.trail) c.count_pickable.result k.keep c.self.invariant
+    (subst (λ (events : List KeptEvent). c.count_pickable.result ≡ length (pickable_waiting k.config (parts_of (length events) k.keep) (trail_of events)))
+    c.deref.ensures.value c.count_pickable.ensures.count))
