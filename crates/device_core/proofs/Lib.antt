@@ -5,3 +5,5 @@ pub mod Done
 pub mod Homecoming
 pub mod Finished
 pub mod Shown
+pub mod Pickable
+pub mod Turned

@@ -19,6 +19,8 @@ use crate::answers::{EntryRef, Picked};
 use crate::entries::{Withdrawn, entry_in};
 use crate::finishing::bring_home;
 use crate::keep::Keep;
+use crate::picking::count_pickable;
+use crate::queues::posted_under;
 use cp_base::{ByteRange, Bytes, Command, Config, NoMemory, SpaceId};
 use job_run::Worked;
 use queue_pairs::{SendCause, TakeCause};
@@ -185,14 +187,14 @@ impl Core {
         requires { (1 ≤ by) × (by ≤ MAX_HOSTS) }
         ensures { result ≡ take_answer (world_of self.now.config self.now.trail) by cid }
     {
-        loop {}
+        posted_under(&self.keep.queues, by, cid)
     }
 
     /// How many queued commands may be picked.
     pub fn pickable(&self) -> u32
         ensures { result ≡ length (pickable_among self.now.config (world_in self.now)) }
     {
-        loop {}
+        count_pickable(self.alloc, &self.config, &self.keep, &self.trail) as u32
     }
 
     /// A party without an open claim turns to the command number `skip`, from 0 in order of submission, of those that may

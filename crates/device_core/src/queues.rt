@@ -64,6 +64,20 @@ pub(crate) fn sent_under(queues: &[Queue], host: u32, cid: u32) -> Option<u32>
     Some(command.sent)
 }
 
+/// The place where the reply to a host's command of an identifier is posted, to be taken.
+pub(crate) fn posted_under(queues: &[Queue], host: u32, cid: u32) -> Result<u32, TakeCause>
+    requires { (1 ≤ host) × (host ≤ length queues.now) }
+    ensures { result ≡ taken (under (queue_of queues.now host) cid) }
+{
+    let Some(command) = queues[host as usize - 1].get(cid) else {
+        return Err(TakeCause::NotOutstanding);
+    };
+    match command.stage {
+        Stage::Posted(place) => Ok(place),
+        Stage::Queued | Stage::Picked => Err(TakeCause::NotYet),
+    }
+}
+
 /// Posts the reply to a host's command that waits, at a place of the trail.
 pub(crate) fn post_in(queues: &mut Vec<Queue>, host: u32, cid: u32, sent: u32, posted: u32)
     requires host { (1 ≤ host) × (host ≤ length queues.old.items) }

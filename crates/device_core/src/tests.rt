@@ -23,6 +23,8 @@ fn submits_are_told_in_the_trail(rt: HostRuntime) {
         Some(SendCause::QueueFull)
     );
     assert_eq!(rt; core.take(1, 7), Err(TakeCause::NotYet));
+    assert_eq!(rt; core.posted(1, 7), Err(TakeCause::NotYet));
+    assert_eq!(rt; core.pickable(), 1);
     core.rest(1);
     core.rest(2);
     assert_eq!(rt; core.submit(2, 7, other).ok(), Some(2));
@@ -35,4 +37,5 @@ fn submits_are_told_in_the_trail(rt: HostRuntime) {
     assert_eq!(rt; core.byte(SpaceId::Mem(1), 15), Some(0));
     assert_eq!(rt; core.byte(SpaceId::Mem(1), 16), None);
     assert_eq!(rt; core.ended(), 0);
+    assert_eq!(rt; core.pickable(), 2);
 }
