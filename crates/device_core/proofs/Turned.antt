@@ -1,5 +1,5 @@
 -- The commands that may be picked, in the world of the trail.
-use Rattle.std.proofs.Common.{◌≡◌, ◌∙◌, ℕ, zero, suc, List, [], ◌∷◌, cond, filter, map, length, Option, Some, slice_get, refl, sym, ap, subst, ◌≤◌, true, Bool}
+use Rattle.std.proofs.Common.{◌≡◌, ◌∙◌, ℕ, zero, suc, List, [], ◌∷◌, cond, filter, map, length, Option, Some, slice_get, refl, sym, ap, subst, ◌≤◌, true, false, Bool}
 use Rattle.std.specs.List.{AllByRecursion}
 use Rattle.std.proofs.lemmas.List.{length-map}
 use Rattle.cp_base.specs.Configuration.{Configuration}
