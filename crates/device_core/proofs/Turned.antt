@@ -1,5 +1,5 @@
 -- The commands that may be picked, in the world of the trail.
-use Rattle.std.proofs.Common.{◌≡◌, ◌∙◌, ℕ, zero, suc, List, [], ◌∷◌, cond, filter, map, length, Option, Some, slice_get, refl, sym, ap, subst, ◌≤◌, true, Bool}
+use Rattle.std.proofs.Common.{◌≡◌, ◌∙◌, ℕ, zero, suc, List, [], ◌∷◌, cond, filter, map, length, Option, Some, slice_get, refl, sym, ap, subst, ◌≤◌, true, false, Bool}
 use Rattle.std.specs.List.{AllByRecursion}
 use Rattle.std.proofs.lemmas.List.{length-map}
 use Rattle.cp_base.specs.Configuration.{Configuration}
@@ -77,7 +77,7 @@ turned-to c commands events spots skip x k held picked =
 
 got-filter : {A : Type 0} (P : A → Bool) (xs : List A) (i : ℕ) (x : A) → slice_get (filter P xs) i ≡ Some x → (j : ℕ) × (slice_get xs j ≡ Some x) × (P x ≡ true)
 got-filter P [] i x e = absurd (none-some x e)
-got-filter P (y ∷ ys) i x e = by_test (P y) refl i e (λ k h. got-filter P ys k x h)
+got-filter {A = A} P (y ∷ ys) i x e = by_test (P y) refl i e (λ k h. got-filter P ys k x h)
   where
     by_test : (b : Bool) → P y ≡ b → (k : ℕ) → slice_get (cond b (y ∷ filter P ys) (filter P ys)) k ≡ Some x
         → ((n : ℕ) → slice_get (filter P ys) n ≡ Some x → (j : ℕ) × (slice_get ys j ≡ Some x) × (P x ≡ true))
