@@ -2,8 +2,8 @@
 ghost use Rattle.std.specs.Prelude.{◌≡◌, ◌+◌, ◌<◌, ◌≤◌, ◌==◌, ◌++◌, ◌∷◌, [], ℕ, Some, IsTrue, find, length, vec_capacity, vec_len};
 ghost use Rattle.cp_base.specs.Answer.{Answer};
 ghost use Rattle.cp_base.specs.Configuration.{Configuration};
-ghost use Rattle.queue_pairs.specs.Outstanding.{CidsDiffer, under};
-ghost use Rattle.queue_pairs.specs.Places.{PlacesDiffer, restaged};
+ghost use Rattle.queue_pairs.specs.Outstanding.{under};
+ghost use Rattle.queue_pairs.specs.Places.{PlacesDiffer};
 ghost use Rattle.range_claims.specs.Kept.{is_kept};
 ghost use Rattle.trail_model.specs.Lawful.{IsAllowedIn, world_of};
 ghost use Rattle.trail_model.specs.Pieces.{any_has_byte};
@@ -11,22 +11,28 @@ ghost use Rattle.trail_model.specs.declared.events.Event.TheVariants as event;
 ghost use Rattle.core_model.specs.Moves.{FinishMoves, without_place};
 ghost use Rattle.core_model.specs.Ties.{StandFor};
 ghost use Rattle.device_core.specs.Homecoming.{BringsHome, CameHome, CanComeHome, homebound, writes_under};
-ghost use Rattle.device_core.specs.Keep.{AreQueues, KeepsRoom, OnlyQueue, parts_of, queue_of};
+ghost use Rattle.device_core.specs.Keep.{KeepsRoom, parts_of, queue_of};
 ghost use Rattle.device_core.specs.Recorded.{trail_of};
 
 use crate::Event;
 use crate::asked::asked_in;
 use crate::keep::Keep;
+use crate::queues::post_claimed;
 use core_model::{ClaimPlaces, EntryPlaces};
 use cp_base::{ByteRange, Piece, Spans};
 use extents::Extents;
-use queue_pairs::{Queue, Stage};
+use queue_pairs::Stage;
 
 // The open claim of a place.
 fn claim_of(claims: &[ClaimPlaces], place: u32) -> Option<ClaimPlaces>
     ensures { result ≡ find (λ claim. claim.claim == place) claims.now }
 {
-    claims.iter().find(|claim| claim.claim == place).copied()
+    for claim in claims {
+        if claim.claim == place {
+            return Some(*claim);
+        }
+    }
+    None
 }
 
 // The open claims without the one of a place.
@@ -57,20 +63,6 @@ fn put_home(store: &mut Extents, writes: &Spans, pieces: Vec<Piece>)
             store.put(&range, bytes);
         }
     }
-}
-
-// Posts the reply to a host's command that was claimed, at a place of the trail.
-fn post_claimed(queues: &mut Vec<Queue>, host: u32, cid: u32, sent: u32, posted: u32)
-    requires host { (1 ≤ host) × (host ≤ length queues.old.items) }
-    requires claimed { under (queue_of queues.old.items host) cid
-        ≡ Some (record { cid = cid; sent = sent; stage = Stage.Picked }) }
-    ensures posted { PlacesDiffer (queue_of queues.old.items host)
-        → OnlyQueue queues.old.items queues.new.items host
-        (restaged (queue_of queues.old.items host) sent (Stage.Posted posted)) }
-    ensures queues { (depth : ℕ) → AreQueues depth queues.old.items → AreQueues depth queues.new.items }
-{
-    let queue = &mut queues[host as usize - 1];
-    queue.post(cid, posted);
 }
 
 impl Keep {
