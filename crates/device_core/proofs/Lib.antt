@@ -1,4 +1,5 @@
+pub mod Carrying
+pub mod Done
 pub mod Restaged
 pub mod Stands
 pub mod Told
-pub mod Done

@@ -9,6 +9,7 @@ mod doing;
 mod events;
 mod keep;
 mod picking;
+mod portions;
 mod queues;
 mod tables;
 #[cfg(test)]
