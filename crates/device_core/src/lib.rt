@@ -7,6 +7,7 @@ mod checks;
 mod device;
 mod doing;
 mod events;
+mod fetching;
 mod keep;
 mod picking;
 mod portions;
