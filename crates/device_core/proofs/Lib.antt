@@ -1,6 +1,10 @@
 pub mod Carrying
+pub mod Claimed
 pub mod Done
 pub mod Fetched
+pub mod Given
+pub mod Prepared
 pub mod Restaged
 pub mod Stands
 pub mod Told
+pub mod Turning

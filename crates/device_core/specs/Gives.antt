@@ -1,5 +1,5 @@
 -- What is claimed, what is left of it, and what is told of a command that is over. This project's own.
-use Rattle.std.specs.Prelude.{◌≡◌, ◌≤◌, ℕ, IsSomeAnd, IsTrue, List, [], length, slice_get}
+use Rattle.std.specs.Prelude.{◌≡◌, ◌≤◌, ℕ, IsSomeAnd, IsTrue, true, List, [], length, slice_get}
 use Rattle.cp_base.specs.Answer.{Answer, answer_of}
 use Rattle.cp_base.specs.Configuration.{Configuration}
 use Rattle.cp_base.specs.declared.commands.Command.{Command}
@@ -37,7 +37,7 @@ world_in d = world_of d.config d.trail
 -- a party claims the command of a submit: the work is what the claim takes along
 pub record Claims (old new : Recorded) (by : ℕ) (s : Submission) (work : Work) : Type 0 where
   pub event : Appends old new (event.Claim by s.request.host s.request.ordinal s.request.place)
-  pub work : IsWorkOf old.config (claim_of old.config (world_in old) by s.request) work
+  pub claimed : IsWorkOf old.config (claim_of old.config (world_in old) by s.request) work
 
 -- a party does the command of a submit at once, which withdraws what it names, where that still waits
 pub record Does (old new : Recorded) (by : ℕ) (s : Submission) : Type 0 where

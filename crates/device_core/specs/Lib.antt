@@ -1,6 +1,9 @@
 pub mod AtOnce
+pub mod Claiming
 pub mod Gives
 pub mod Keep
 pub mod Portions
+pub mod Preparing
 pub mod Reading
 pub mod Recorded
+pub mod Turns

@@ -4,6 +4,7 @@
 mod answers;
 mod asked;
 mod checks;
+mod claiming;
 mod device;
 mod doing;
 mod events;
@@ -11,6 +12,7 @@ mod fetching;
 mod keep;
 mod picking;
 mod portions;
+mod preparing;
 mod queues;
 mod tables;
 #[cfg(test)]
