@@ -16,6 +16,7 @@ ghost use Rattle.device_core.specs.Recorded.{Appends, told_event, with_event};
 
 use crate::Event;
 use crate::answers::{EntryRef, Picked};
+use crate::claiming::{Turned, turn};
 use crate::keep::Keep;
 use cp_base::{ByteRange, Bytes, Command, Config, NoMemory, SpaceId};
 use job_run::Worked;
@@ -200,7 +201,27 @@ impl Core {
         ensures gives { Gives self.old by skip result self.new }
         ensures lawful { IsLawful self.new.config self.new.commands self.new.trail }
     {
-        loop {}
+        let claim = self.trail.len() as u32;
+        match turn(
+            &mut self.keep,
+            self.alloc,
+            &self.config,
+            self.commands,
+            &self.trail,
+            by,
+            skip,
+        ) {
+            Turned::Claimed(event, work) => {
+                self.trail.push_reserved(event);
+                Picked::Claimed { work, claim }
+            }
+            Turned::Did(event) => {
+                self.trail.push_reserved(event);
+                Picked::Did
+            }
+            Turned::Nothing => Picked::Nothing,
+            Turned::Rested => Picked::Rested,
+        }
     }
 
     /// A party finishes the open claim that it made at a place of the trail: the bytes come home, and the reply is posted.

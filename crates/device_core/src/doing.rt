@@ -1,9 +1,10 @@
 // Commands done at once.
 ghost use Rattle.std.specs.Prelude.{◌≡◌, ◌+◌, ◌<◌, ◌≤◌, ◌++◌, ◌∷◌, [], ℕ, Option, Some, is_some, if◌then◌else◌, IfSome, IsSomeAnd, IsTrue, length, slice_get, vec_capacity, vec_len};
-ghost use Rattle.cp_base.specs.Answer.{answer_of};
+ghost use Rattle.cp_base.specs.Answer.{Answer, answer_of};
 ghost use Rattle.device_model.specs.Execution.{tells};
 ghost use Rattle.device_model.specs.Memory.{moves_bytes};
 ghost use Rattle.trail_model.specs.World.{is_no_memory};
+ghost use Rattle.trail_model.specs.declared.events.Event.TheVariants as event;
 ghost use Rattle.device_core.specs.AtOnce.{IsDoneAtOnce, changes_tables};
 ghost use Rattle.cp_base.specs.declared.limits.TheConstants.{MAX_HOSTS};
 ghost use Rattle.queue_pairs.specs.Outstanding.{under};
@@ -14,7 +15,7 @@ ghost use Rattle.core_model.specs.Moves.{PostMoves, WithdrawMoves, without_waiti
 ghost use Rattle.core_model.specs.Parts.{tables_of};
 ghost use Rattle.core_model.specs.Picking.{is_waiting, may_pick_asked, withdrawn_waiting};
 ghost use Rattle.core_model.specs.Ties.{StandFor};
-ghost use Rattle.device_core.specs.Recorded.{IsDoBy, told_event, trail_of};
+ghost use Rattle.device_core.specs.Recorded.{told_event, trail_of};
 ghost use Rattle.device_core.specs.Keep.{CanPost, Holds, KeepsRoom, parts_of, queue_of};
 
 use crate::Event;
@@ -48,8 +49,8 @@ fn withdrawn(waiting: &[WaitingSubmit], names: Option<u32>) -> Option<u32>
     None
 }
 
-// Those that wait, without the one of a submit.
-fn leave_out(waiting: &mut Vec<WaitingSubmit>, sent: u32)
+/// Those that wait, without the one of a submit.
+pub(crate) fn leave_out(waiting: &mut Vec<WaitingSubmit>, sent: u32)
     ensures left { waiting.new.items ≡ without_waiting waiting.old.items sent }
     ensures capacity { vec_capacity waiting.new ≡ vec_capacity waiting.old }
 {
@@ -178,7 +179,8 @@ pub(crate) fn do_now(
     requires may { IsTrue (may_pick_asked config.now (parts_of (length trail.now) keep.old) (asked_at (trail_of trail.now) x.sent)) }
     ensures stands { StandFor config.now commands (parts_of (length trail.now + 1) keep.new)
         (trail_of trail.now ++ told_event result ∷ []) }
-    ensures does { IsDoBy by x.sent (told_event result) }
+    ensures does { IsSomeAnd (asked_at (trail_of trail.now) x.sent) (λ asked. (answer : Answer) × (told_event result
+        ≡ event.Do by asked.host asked.ordinal x.sent answer (withdrawn_waiting keep.old.waiting.items x.names))) }
     ensures room { KeepsRoom keep.old keep.new }
 {
     let asked = asked_in(trail, x.sent).unwrap();
