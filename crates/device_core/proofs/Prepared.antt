@@ -71,41 +71,18 @@ told-none budget (end.BadJump place) = refl
 told-none budget (end.CallDepth place) = refl
 told-none budget end.BudgetSpent = refl
 
--- whether a command's answer has bytes
-abbrev pub answers_bytes : Command → Bool
-answers_bytes (command.NvmRead ns lba count) = true
-answers_bytes (command.NvmWrite ns lba bytes) = false
-answers_bytes (command.NvmZeroes ns lba count) = false
-answers_bytes (command.NvmCopy ns lba from) = false
-answers_bytes (command.MemRead ns at len) = true
-answers_bytes (command.MemWrite ns at bytes) = false
-answers_bytes (command.MemFill ns at len value) = false
-answers_bytes (command.MemCopy ns at from) = false
-answers_bytes (command.SetCreate ranges) = false
-answers_bytes (command.SetDelete set) = false
-answers_bytes (command.Load slot size at bytes) = false
-answers_bytes (command.Unload slot) = false
-answers_bytes (command.Activate slot) = false
-answers_bytes (command.Deactivate slot) = false
-answers_bytes (command.Execute slot set p1 p2 budget) = false
-answers_bytes (command.Abort cid) = false
-
-pub reply-none : (c : Configuration) (x : Execution) (all : AllBytes) (cmd : Command) → answers_bytes cmd ≡ false → length (written c x all cmd).answer.bytes ≤ 0
-reply-none c x all (command.NvmRead ns lba count) e = absurd (true≢false e)
-reply-none c x all (command.MemRead ns at len) e = absurd (true≢false e)
-reply-none c x all (command.Execute slot set p1 p2 budget) e = subst (λ (bytes : List ℕ). length bytes ≤ 0) (sym (told-none budget _)) (omega arith)
-reply-none c x all cmd e = omega arith
-
--- where it has bytes, it has those of the one range that is read
-pub reply-read : (c : Configuration) (ranges : List MemRange) (x : Execution) (all : AllBytes) (cmd : Command) (first : Region) (rest : List Region) → answers_bytes cmd ≡ true
-    → first ∷ rest ≡ (footprint_of c ranges cmd).reads → length (written c x all cmd).answer.bytes ≤ first.len
-reply-read c ranges x all (command.NvmRead ns lba count) first rest e same =
-    let len = ap (λ (rs : List Region). (get_or rs 0 first).len) same in
+-- an answer has no more bytes than the first range that is read
+pub reply-first : (c : Configuration) (ranges : List MemRange) (x : Execution) (all : AllBytes) (cmd : Command) (reads : List Region) (r : Region)
+    → reads ≡ (footprint_of c ranges cmd).reads → get_or reads 0 r ≡ r → length (written c x all cmd).answer.bytes ≤ r.len
+reply-first c ranges x all (command.NvmRead ns lba count) reads r same first =
+    let len = ap (λ (y : Region). y.len) (sym first ∙ ap (λ (rs : List Region). get_or rs 0 r) same) in
     omega (arith, len, length-gathered all (space.Nvm ns) (lba * c.block) (count * c.block))
-reply-read c ranges x all (command.MemRead ns at len) first rest e same =
-    let one = ap (λ (rs : List Region). (get_or rs 0 first).len) same in
+reply-first c ranges x all (command.MemRead ns at len) reads r same first =
+    let one = ap (λ (y : Region). y.len) (sym first ∙ ap (λ (rs : List Region). get_or rs 0 r) same) in
     omega (arith, one, length-gathered all (space.Mem ns) at len)
-reply-read c ranges x all cmd first rest e same = absurd (true≢false (sym e))
+reply-first c ranges x all (command.Execute slot set p1 p2 budget) reads r same first =
+    subst (λ (bytes : List ℕ). length bytes ≤ r.len) (sym (told-none budget _)) (omega arith)
+reply-first c ranges x all cmd reads r same first = omega arith
 
 -- ---- the program
 
