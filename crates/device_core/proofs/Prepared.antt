@@ -1,5 +1,5 @@
 -- What is prepared for a claim.
-use Rattle.std.proofs.Common.{◌≡◌, ℕ, zero, suc, ◌*◌, ◌≤◌, ◌==◌, nat_lt, get_or, Bool, true, false, not, ◌&&◌, ◌||◌, cond, if◌then◌else◌, List, [], ◌∷◌, ◌++◌, find, length, map, Option, Some, None, IsSome, is_none, option_map, unwrap_or, refl, sym, ap, subst, ◌∙◌, arith}
+use Rattle.std.proofs.Common.{◌≡◌, ℕ, zero, suc, ◌*◌, ◌≤◌, ◌==◌, nat_lt, get_or, Bool, true, false, not, ◌&&◌, ◌||◌, cond, if◌then◌else◌, List, [], ◌∷◌, ◌++◌, find, length, map, Option, Some, None, Result, Ok, Err, IfOk, IsSome, is_none, option_map, replicate, unwrap_or, vec_capacity, refl, sym, ap, subst, ◌∙◌, arith}
 use Rattle.std.proofs.lemmas.Bool.{true≢false}
 use Rattle.std.specs.List.{AllByRecursion, list_any}
 use Rattle.std.specs.Option.{option_or}
@@ -29,11 +29,12 @@ use Rattle.trail_model.specs.Pieces.{AllBytes, carried}
 use Rattle.trail_model.proofs.Bytes.{length-gathered}
 use Rattle.core_model.specs.Parts.{tables_of}
 use Rattle.extents.specs.Homes.{Homes}
-use Rattle.job_run.specs.Works.{FitsExecution, IsWork, region_bytes}
+use Rattle.job_run.specs.Works.{FitsExecution, IsCodeOf, IsWork, region_bytes}
 use Rattle.job_run.specs.declared.work.Work.{Work}
 use Rattle.device_core.proofs.Claimed.{cut-ranges, cut-regions, cut-whole}
 use Rattle.device_core.specs.Portions.{AreCutAt}
 use Rattle.device_core.specs.Preparing.{FitsSetup, carried_in, set_in}
+use Rattle.bpf_model.specs.Address.{stack_len}
 use Rattle.device_core.specs.declared.preparing.Setup.{Setup}
 
 -- ---- the ranges of a set
@@ -158,3 +159,22 @@ made c s h cmd w e block moves passes cut no_windows no_reply reply fits = recor
       (reply (execution_of s cmd) (carried (region_bytes w.pieces.items)));
   execution = λ is. subst (λ (m : Command). FitsExecution (execution_of s m) w) (sym e) (fits (sym (ap is_execution e) ∙ is));
 }
+
+-- what an execution has fits it
+pub setup-fits : {E : Type 0} (r : Result Setup E) (slots : List Slot) (slot number p1 p2 budget pieces : ℕ) (set : Option (List MemRange))
+    → IfOk r (λ (setup : Setup). pieces ≤ vec_capacity setup.windows) → IfOk r (λ (setup : Setup). setup.set ≡ set)
+    → IfOk r (λ (setup : Setup). (sets : List RangeSet) → IsCodeOf (executable_in (tables_of slots sets) slot) (option_map (λ decoded. decoded.value) setup.code))
+    → IfOk r (λ (setup : Setup). setup.stack.items ≡ replicate stack_len 0) → IsSome set
+    → IfOk r (λ (setup : Setup). (sets : List RangeSet) → set ≡ ranges_under sets number
+    → FitsSetup (execution_of (tables_of slots sets) (command.Execute slot number p1 p2 budget)) pieces setup)
+setup-fits (Err e) slots slot number p1 p2 budget pieces set windows same code stack there = tt
+setup-fits (Ok setup) slots slot number p1 p2 budget pieces set windows same code stack there = λ sets here. record {
+  set = same ∙ by_found set (ranges_under sets number) there here;
+  code = code sets;
+  stack = stack;
+  windows = windows;
+}
+  where
+    by_found : (a b : Option (List MemRange)) → IsSome a → a ≡ b → a ≡ Some (unwrap_or b [])
+    by_found None b there e = cc
+    by_found (Some ranges) b there e = ap (λ (o : Option (List MemRange)). Some (unwrap_or o [])) e
