@@ -15,8 +15,8 @@ use range_sets::Sets;
 use slm_bytes::bytes_to_range;
 use std::alloc::Global;
 
-// Whether the device has a program of its own in a slot: in the four behind those that hosts load.
-fn is_builtin(slot: u32) -> bool
+/// Whether the device has a program of its own in a slot: in the four behind those that hosts load.
+pub(crate) fn is_builtin(slot: u32) -> bool
     ensures { result ≡ is_some (builtin_at slot) }
 {
     match slot.checked_sub(SLOTS) {
@@ -64,7 +64,13 @@ fn check_execute(
 }
 
 // The checks of a copy.
-fn check_copied(alloc: Global, config: &Config, slots: &Slots, sets: &Sets, command: &Command) -> Result<(), Status>
+fn check_copied(
+    alloc: Global,
+    config: &Config,
+    slots: &Slots,
+    sets: &Sets,
+    command: &Command,
+) -> Result<(), Status>
     requires { IsSome (copy_of config.now command.now) }
     ensures { MatchResult result
         (λ _. first_failing (checks_of config.now (tables_of slots.now sets.now) command.now) ≡ None)
@@ -108,7 +114,10 @@ pub(crate) fn check_moving(
             return check_copied(alloc, config, slots, sets, command);
         }
         Command::Execute {
-            slot, set, budget, ..
+            slot,
+            set,
+            budget,
+            ..
         } => return check_execute(config, slots, sets, *slot, *set, *budget),
         Command::SetCreate { .. }
         | Command::SetDelete { .. }

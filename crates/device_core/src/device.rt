@@ -18,6 +18,7 @@ use crate::Event;
 use crate::answers::{EntryRef, Picked};
 use crate::entries::{Withdrawn, entry_in};
 use crate::finishing::bring_home;
+use crate::claiming::{Turned, turn};
 use crate::keep::Keep;
 use crate::picking::count_pickable;
 use crate::queues::posted_under;
@@ -206,7 +207,27 @@ impl Core {
         ensures gives { Gives self.old by skip result self.new }
         ensures lawful { IsLawful self.new.config self.new.commands self.new.trail }
     {
-        loop {}
+        let claim = self.trail.len() as u32;
+        match turn(
+            &mut self.keep,
+            self.alloc,
+            &self.config,
+            self.commands,
+            &self.trail,
+            by,
+            skip,
+        ) {
+            Turned::Claimed(event, work) => {
+                self.trail.push_reserved(event);
+                Picked::Claimed { work, claim }
+            }
+            Turned::Did(event) => {
+                self.trail.push_reserved(event);
+                Picked::Did
+            }
+            Turned::Nothing => Picked::Nothing,
+            Turned::Rested => Picked::Rested,
+        }
     }
 
     /// A party finishes the open claim that it made at a place of the trail: the bytes come home, and the reply is posted.

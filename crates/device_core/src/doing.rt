@@ -49,8 +49,8 @@ fn withdrawn(waiting: &[WaitingSubmit], names: Option<u32>) -> Option<u32>
     None
 }
 
-// Those that wait, without the one of a submit.
-fn leave_out(waiting: &mut Vec<WaitingSubmit>, sent: u32)
+/// Those that wait, without the one of a submit.
+pub(crate) fn leave_out(waiting: &mut Vec<WaitingSubmit>, sent: u32)
     ensures left { waiting.new.items ≡ without_waiting waiting.old.items sent }
     ensures capacity { vec_capacity waiting.new ≡ vec_capacity waiting.old }
 {

@@ -4,13 +4,17 @@
 mod answers;
 mod asked;
 mod checks;
+mod claiming;
 mod device;
 mod doing;
 mod entries;
 mod events;
 mod finishing;
+mod fetching;
 mod keep;
 mod picking;
+mod portions;
+mod preparing;
 mod queues;
 mod tables;
 #[cfg(test)]
