@@ -32,7 +32,8 @@ use Rattle.trail_model.proofs.Sound.{some-and}
 use Rattle.trail_model.proofs.Submits.{claim-place, found-each, none-some, some-same}
 use Rattle.core_model.specs.Asked.{Asked, asked_at, asked_by_request}
 use Rattle.core_model.specs.Moves.{FinishMoves, filled_by, filled_by_all, without_kept}
-use Rattle.core_model.specs.Parts.{ClaimPlaces, KeptFootprint, Parts}
+use Rattle.core_model.specs.Parts.{KeptFootprint, Parts}
+use Rattle.core_model.specs.declared.places.ClaimPlaces.{ClaimPlaces}
 use Rattle.core_model.specs.Ties.{StandFor, as_kept, as_places, is_one_of}
 use Rattle.core_model.proofs.Apart.{filled-all, pieces-apart, pieces-out, pieces-whole}
 use Rattle.core_model.proofs.Choosing.{kept-in, places-in}
@@ -43,7 +44,7 @@ use Rattle.core_model.proofs.Reading.{asked-found}
 use Rattle.core_model.proofs.Steps.{find-map}
 use Rattle.job_run.specs.Works.{pieces_after, region_bytes}
 use Rattle.job_run.specs.declared.work.Worked.{Worked}
-use Rattle.job_run.proofs.Copying.{same_region-true}
+use Rattle.job_run.proofs.Holding.{same_region-true}
 use Rattle.device_core.specs.Gives.{HasWorked}
 use Rattle.device_core.specs.Homecoming.{BringsHome, CameHome, CanComeHome, IsOut, goes_home, has_bytes, homebound, places_of, writes_in, writes_under}
 use Rattle.device_core.specs.Keep.{Holds, IsQueue, as_kept_footprint, commands_in, parts_of, queue_of}
@@ -130,7 +131,7 @@ end-home start now all h = record { bytes = h.bytes; out = λ region. sym (and-t
     and-true true = refl
     and-true false = refl
 
-as-bytes : Piece → RegionBytes
+abbrev pub as-bytes : Piece → RegionBytes
 as-bytes x = record { region = x.range; bytes = x.bytes.items }
 
 goes : (writes : List Region) (x : Piece) (xs : List Piece) → any_has_byte writes x.range.space x.range.start ≡ true → homebound writes (x ∷ xs) ≡ as-bytes x ∷ homebound writes xs
@@ -292,7 +293,7 @@ pub record Closes (events : List KeptEvent) (k : Keep) (claim : OpenClaim) (plac
   pub at : claim.place ≡ place
   pub kept : is_kept k.kept.kept claim.place ≡ true
   pub room : vec_len k.entries < vec_capacity k.entries
-  pub writes : writes_under k.kept.kept claim.place ≡ writes
+  pub runs : writes_under k.kept.kept claim.place ≡ writes
   pub goes : filter (goes_home writes) pieces ≡ home
   pub can : CanComeHome k.store home
 
@@ -325,7 +326,7 @@ closes c commands events k place pieces h =
       at = at;
       kept = subst (λ (n : ℕ). is_kept k.kept.kept n ≡ true) (sym at) (found-any place k.kept.kept (claimed_footprint c claim) kept);
       room = omega arith;
-      writes = ap (λ (n : ℕ). writes_under k.kept.kept n) at ∙ ap writes_in kept;
+      runs = ap (λ (n : ℕ). writes_under k.kept.kept n) at ∙ ap writes_in kept;
       goes = ap (λ (xs : List RegionBytes). filter (goes_home (claimed_footprint c claim).writes) xs) h.after ∙ claim-comes-home c commands t place claim stands.lawful h.found;
       can = record {
         out = each-out k.store ps (pieces-whole c claim) (pieces-out c commands p t place claim stands h.found);
@@ -348,7 +349,7 @@ closed-stands c commands by place answer events old new pieces h allowed moves =
     let q : Parts = parts_of (length events + 1) new in
     let claim : OpenClaim = h.claim in
     let same : homebound (writes_under old.kept.kept claim.place) pieces ≡ filter has_bytes (effect_of_claim c claim).pieces =
-    ap (λ (ws : List Region). homebound ws pieces) x.writes ∙ x.goes in
+    ap (λ (ws : List Region). homebound ws pieces) x.runs ∙ x.goes in
     finish-stands c commands p q (trail_of events) by place answer claim h.held.stands allowed h.found
     (finish-same p q place claim.request.host claim.request.place (effect_of_claim c claim).pieces
     (subst (λ (n : ℕ). FinishMoves p q n claim.request.host claim.request.place (filter has_bytes (effect_of_claim c claim).pieces)) x.at

@@ -12,7 +12,7 @@ use Rattle.cp_base.specs.Contents.{Contents, bytes_in}
 use Rattle.cp_base.specs.Region.{Region}
 use Rattle.cp_base.specs.Runs.{runs_of, space_before}
 use Rattle.cp_base.specs.Sets.{RangeSet}
-use Rattle.cp_base.specs.Sharing.{any_overlap, meets_any, range_region, same_space, shares_byte, source_region}
+use Rattle.cp_base.specs.Sharing.{any_overlap, meets_any, range_region, same_space, shares_byte, source_region, same_region}
 use Rattle.cp_base.specs.declared.commands.Command.{Command}
 use Rattle.cp_base.specs.declared.commands.Command.TheVariants as command
 use Rattle.cp_base.specs.declared.lists.MemRange.{MemRange}
@@ -35,8 +35,8 @@ use Rattle.trail_model.proofs.Passing.{all-pass, passes, Passes}
 use Rattle.trail_model.proofs.Regions.{IsInSome, has_byte-in, in-has_byte, out-has_byte, runs-in, some-has_byte, unmet}
 use Rattle.trail_model.proofs.Sound.{sound-world}
 use Rattle.trail_model.proofs.Submits.{each-weaker, found-each}
-use Rattle.job_run.specs.Works.{is_same_region, new_piece, pieces_after}
-use Rattle.job_run.proofs.Copying.{same_region-itself, same_region-true}
+use Rattle.job_run.specs.Works.{new_piece, pieces_after}
+use Rattle.job_run.proofs.Holding.{same_region-itself, same_region-true}
 use Rattle.core_model.proofs.Homing.{any-runs}
 use Rattle.device_core.specs.Homecoming.{goes_home, has_bytes}
 
@@ -66,9 +66,9 @@ first-byte r = by_test (nat_lt 0 r.len) refl
 -- a piece stays where it lies
 same-place : (written : List RegionBytes) (piece : RegionBytes) → (new_piece written piece).region ≡ piece.region
 same-place [] piece = refl
-same-place (w ∷ written) piece = by_test (is_same_region w.region piece.region) refl (same-place written piece)
+same-place (w ∷ written) piece = by_test (same_region w.region piece.region) refl (same-place written piece)
   where
-    by_test : (b : Bool) → is_same_region w.region piece.region ≡ b → (new_piece written piece).region ≡ piece.region
+    by_test : (b : Bool) → same_region w.region piece.region ≡ b → (new_piece written piece).region ≡ piece.region
         → (if b then w else new_piece written piece).region ≡ piece.region
     by_test true e later = same_region-true w.region piece.region e
     by_test false e later = later
@@ -87,10 +87,10 @@ none-go writes written contents (r ∷ rs) all =
 
 -- ---- an execution: the ranges that it may write go home
 
-from-memory : Memory → MemRange → RegionBytes
+abbrev from-memory : Memory → MemRange → RegionBytes
 from-memory memory r = record { region = range_region r; bytes = bytes_from memory r.ns r.at r.len }
 
-number_of : SpaceId → ℕ
+abbrev number_of : SpaceId → ℕ
 number_of (Nvm n) = n
 number_of (Mem n) = n
 
@@ -126,9 +126,9 @@ found-new memory (x ∷ ranges) r piece (inl same) e =
     ap (λ (b : Bool). if b then from-memory memory x else new_piece (ranges_with memory ranges) piece)
     (same_region-itself (range_region x) piece.region (ap (λ (y : MemRange). range_region y) same ∙ sym e))
     ∙ ap (λ (y : MemRange). from-memory memory y) same
-found-new memory (x ∷ ranges) r piece (inr later) e = by_test (is_same_region (range_region x) piece.region) refl (found-new memory ranges r piece later e)
+found-new memory (x ∷ ranges) r piece (inr later) e = by_test (same_region (range_region x) piece.region) refl (found-new memory ranges r piece later e)
   where
-    by_test : (b : Bool) → is_same_region (range_region x) piece.region ≡ b → new_piece (ranges_with memory ranges) piece ≡ from-memory memory r
+    by_test : (b : Bool) → same_region (range_region x) piece.region ≡ b → new_piece (ranges_with memory ranges) piece ≡ from-memory memory r
         → (if b then from-memory memory x else new_piece (ranges_with memory ranges) piece) ≡ from-memory memory r
     by_test true h rest = same-bytes memory x r (same_region-true (range_region x) piece.region h ∙ e)
     by_test false h rest = rest
@@ -347,7 +347,7 @@ all-none (r ∷ rs) = (refl, all-none rs)
 
 -- ---- each command
 
-laid-piece : SpaceId → ℕ → List ℕ → RegionBytes
+abbrev laid-piece : SpaceId → ℕ → List ℕ → RegionBytes
 laid-piece space start bytes = record { region = record { space = space; start = start; len = length bytes }; bytes = bytes }
 
 -- of what a command carries its writes go home, with what it wrote

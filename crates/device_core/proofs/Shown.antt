@@ -1,7 +1,7 @@
 -- What the core shows of itself: its bytes and its entries.
 use Rattle.std.proofs.Common.{◌≡◌, ℕ, zero, suc, ◌+◌, ◌-◌, ◌<◌, ◌≤◌, Bool, true, false, List, [], ◌∷◌, length, slice_get, slice_index, Option, Some, None, IsSome, option_map, refl, sym, ap, subst, ◌∙◌, inl, inr, ◌⊎◌, ⊎_elim, arith, if◌then◌else◌}
 use Rattle.std.specs.Prelude.{IsSomeAnd}
-use Rattle.std.proofs.lemmas.Bool.{cases_lt}
+use Rattle.std.proofs.lemmas.Bool.{cases_lt, true≢false}
 use Rattle.std.proofs.lemmas.Option.{slice_get-get_or, slice_get_past}
 use Rattle.cp_base.specs.Configuration.{Configuration}
 use Rattle.cp_base.specs.Contents.{Contents, bytes_in, bytes_of}
@@ -16,7 +16,8 @@ use Rattle.trail_model.specs.World.{Completion, World, home, is_out}
 use Rattle.trail_model.proofs.Bytes.{bytes_in-gathered, gathered-at}
 use Rattle.trail_model.proofs.Putting.{length-cut}
 use Rattle.trail_model.proofs.Sound.{some-and}
-use Rattle.core_model.specs.Parts.{EntryPlaces, Parts}
+use Rattle.core_model.specs.Parts.{Parts}
+use Rattle.core_model.specs.declared.places.EntryPlaces.{EntryPlaces}
 use Rattle.core_model.specs.Picking.{AreAtHome}
 use Rattle.core_model.specs.Telling.{TellsEntry}
 use Rattle.core_model.proofs.Entries.{entries-number, entry-told}
@@ -41,12 +42,12 @@ home-byte c w s k there = by_test (is_out c w.claims s k) there
   where
     by_test : (b : Bool) → IsSome (if b then None else slice_get (bytes_of w.state.contents s) k)
         → (if b then None else slice_get (bytes_of w.state.contents s) k) ≡ slice_get (bytes_of w.state.contents s) k
-    by_test true there = absurd there
+    by_test true there = absurd (true≢false (sym there))
     by_test false there = refl
 
 some-within : (xs : List ℕ) (k : ℕ) → IsSome (slice_get xs k) → k < length xs
 some-within xs k there = ⊎_elim {C = k < length xs} (λ (less : k < length xs). less)
-    (λ (over : length xs ≤ k). absurd (subst IsSome (slice_get_past xs k over) there)) (cases_lt k (length xs))
+    (λ (over : length xs ≤ k). absurd (true≢false (sym (subst IsSome (slice_get_past xs k over) there)))) (cases_lt k (length xs))
 
 shown-bytes : (c : Configuration) (commands : ℕ) (events : List KeptEvent) (spots : ℕ) (k : Keep) (r : Region) (bytes : List ℕ) → Holds c commands events spots k
     → HasAtHome c events r → AreBytesAt k.store r bytes → 0 < r.len → bytes ≡ bytes_in (world_of c (trail_of events)).state.contents r

@@ -16,7 +16,7 @@ ghost use Rattle.device_core.specs.Recorded.{Appends, told_event, with_event};
 
 use crate::Event;
 use crate::answers::{EntryRef, Picked};
-use crate::entries::{Withdrawn, entry_in};
+use crate::entries::{Withdrawn, entry_at, entry_in};
 use crate::finishing::bring_home;
 use crate::claiming::{Turned, turn};
 use crate::keep::Keep;
@@ -246,8 +246,8 @@ impl Core {
         ensures { option_map ended_as_shown result
             ≡ option_map ended_by (slice_get (history_of self.now.config self.now.trail) k) }
     {
-        let entry = self.keep.entries.get(k as usize)?;
-        entry_in(&self.trail, self.withdrawn.reply(), *entry)
+        let entry = entry_at(&self.keep.entries, k)?;
+        entry_in(&self.trail, self.withdrawn.reply(), entry)
     }
 
     /// Appends the bytes of a range, all of which are at home, to a buffer that has room for them. It takes no

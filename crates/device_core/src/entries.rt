@@ -1,5 +1,5 @@
 // The entries of the history.
-ghost use Rattle.std.specs.Prelude.{◌≡◌, Some, option_copied, option_map};
+ghost use Rattle.std.specs.Prelude.{◌≡◌, Some, option_copied, option_map, slice_get};
 ghost use Rattle.cp_base.specs.Answer.{answer_of, only_status};
 ghost use Rattle.trail_model.specs.World.{Completion};
 ghost use Rattle.core_model.specs.Telling.{TellsEntry, reply_at};
@@ -59,6 +59,13 @@ fn reply_to<'a>(trail: &'a [Event], withdrawn: &'a Reply, entry: EntryPlaces) ->
         Event::Do { sent, reply, .. } => Some(if *sent == entry.sent { reply } else { withdrawn }),
         Event::Submit { .. } | Event::Claim { .. } | Event::Take { .. } | Event::Rest { .. } => None,
     }
+}
+
+/// The places of the entry of a number.
+pub(crate) fn entry_at(entries: &[EntryPlaces], k: u32) -> Option<EntryPlaces>
+    ensures { result ≡ slice_get entries.now k }
+{
+    entries.get(k as usize).copied()
 }
 
 /// The command of an entry with its reply, which is this where an Abort withdrew it.

@@ -1,6 +1,7 @@
 -- The claim ends: the parts move as at its finish.
-use Rattle.std.proofs.Common.{◌≡◌, ◌∙◌, ℕ, ◌≤◌, List, Option, ap, map, refl, subst, sym}
+use Rattle.std.proofs.Common.{◌≡◌, ◌∙◌, ℕ, ◌*◌, ◌≤◌, List, Option, ap, map, refl, subst, sym}
 use Rattle.cp_base.specs.Region.{Region}
+use Rattle.cp_base.specs.declared.limits.TheConstants.{MAX_HOSTS}
 use Rattle.cp_base.specs.declared.spans.Footprint.{Footprint}
 use Rattle.range_claims.specs.Kept.{KeptClaims, footprint_under}
 use Rattle.extents.specs.Homes.{Homes}
@@ -36,7 +37,7 @@ returns-clause-room c depth commands room = record {
   waiting = room.waiting;
   entries = subst (λ (n : ℕ). commands ≤ n) (sym c.push_reserved.ensures.capacity) room.entries;
   kept = ap (λ (k : KeptClaims). k.most) c.remove-footprint.ensures.kept ∙ room.kept;
-  claims = subst (λ (n : ℕ). _ ≤ n) (sym c.leave_out.ensures.capacity) room.claims;
+  claims = subst (λ (n : ℕ). 2 * MAX_HOSTS ≤ n) (sym c.leave_out.ensures.capacity) room.claims;
   queues = c.post_claimed.ensures.queues depth room.queues;
   ordinals = room.ordinals;
 }
