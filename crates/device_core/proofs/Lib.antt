@@ -1,3 +1,4 @@
+pub mod Begun
 pub mod Carrying
 pub mod Claimed
 pub mod Done
