@@ -6,12 +6,10 @@ use Rattle.std.proofs.lemmas.Option.{same_Some}
 use Rattle.std.specs.List.{AllByRecursion}
 use Rattle.cp_base.specs.Answer.{Answer}
 use Rattle.cp_base.specs.Configuration.{Configuration}
-use Rattle.trail_model.proofs.Counts.{rest-from}
 use Rattle.trail_model.proofs.Linked.{self-found}
 use Rattle.trail_model.proofs.Moving.{linked-world}
-use Rattle.trail_model.proofs.Submits.{submit-place}
-use Rattle.trail_model.specs.Lawful.{IsLawful, MayDo, Trail, world_of}
-use Rattle.trail_model.specs.World.{Submission, World, first_world, is_pickable, is_queued, pickable_among, queued_among, submit_at, withdrawn_place}
+use Rattle.trail_model.specs.Lawful.{IsLawful, Trail, world_of}
+use Rattle.trail_model.specs.World.{Submission, World, is_pickable, is_queued, pickable_among, queued_among, submit_at, withdrawn_place}
 use Rattle.trail_model.specs.declared.events.Event.{Event}
 use Rattle.trail_model.specs.declared.events.Event.TheVariants as event
 use Rattle.core_model.proofs.Choosing.{got-each, pickable-in}
@@ -19,11 +17,13 @@ use Rattle.trail_model.proofs.NewSets.{each-filter}
 use Rattle.core_model.specs.Asked.{Asked, asked_at}
 use Rattle.core_model.specs.Parts.{Parts}
 use Rattle.core_model.specs.declared.places.WaitingSubmit.{WaitingSubmit}
-use Rattle.core_model.specs.Picking.{may_pick_asked, pickable_waiting}
+use Rattle.core_model.specs.Picking.{may_pick_asked, pickable_waiting, withdrawn_waiting}
 use Rattle.core_model.specs.Ties.{StandFor, as_waiting, waiting_among}
-use Rattle.device_core.specs.Keep.{Holds, parts_of}
-use Rattle.device_core.specs.Recorded.{IsDoBy, trail_of}
-use Rattle.device_core.specs.Turns.{DoesBy, StandWith}
+use Rattle.device_core.proofs.Turned.{turned-to}
+use Rattle.device_core.specs.Claiming.{HasStore}
+use Rattle.device_core.specs.Keep.{HasRoom, Holds, KeepsRoom, parts_of}
+use Rattle.device_core.specs.Recorded.{trail_of}
+use Rattle.device_core.specs.Turns.{DoesBy}
 use Rattle.device_core.specs.declared.events.Event.{Event as KeptEvent}
 use Rattle.device_core.specs.declared.keep.Keep.{Keep}
 
@@ -94,26 +94,37 @@ pub some-and : {A : Type 0} (P Q : A → Type 0) (o : Option A) → ((x : A) →
 some-and P Q None f h = absurd h
 some-and P Q (Some x) f h = f x refl h
 
-pub done : (c : Configuration) (commands : ℕ) (trail : Trail) (by sent : ℕ) (e : Event) → IsLawful c commands (trail ++ e ∷ []) → IsDoBy by sent e
-    → IsSomeAnd (submit_at (world_of c trail).submits sent) (λ (s : Submission). DoesBy (world_of c trail) by e s)
-done c commands trail by sent (event.Do party host ordinal place answer aborts) lawful is =
-    let w : World = world_of c trail in
-    let allowed = (rest-from c commands (first_world c) trail (event.Do party host ordinal place answer aborts ∷ []) lawful).0 in
-    subst (λ (n : ℕ). IsSomeAnd (submit_at w.submits n) (λ (s : Submission). DoesBy w by (event.Do party host ordinal place answer aborts) s)) is.1
-    (some-and (λ (s : Submission). MayDo c w party host ordinal answer aborts s) (λ (s : Submission). DoesBy w by (event.Do party host ordinal place answer aborts) s)
-    (submit_at w.submits place)
-    (λ s found may. record {
-      answer = answer;
-      event = λ i. event.Do (is.0 i) (sym may.turn.same_host i) (sym may.turn.same_ordinal i) (sym (submit-place w.submits place s found) i) answer (may.withdraws i);
+-- the submission of the number is done at once by the event of what was asked for at its place
+pub did-number : (c : Configuration) (commands : ℕ) (events : List KeptEvent) (spots by skip : ℕ) (x : WaitingSubmit) (old mid : Keep) (e : Event) → Holds c commands events spots old
+    → slice_get (pickable_waiting c (parts_of (length events) old) (trail_of events)) skip ≡ Some x → mid.waiting.items ≡ old.waiting.items
+    → IsSomeAnd (asked_at (trail_of events) x.sent) (λ (asked : Asked). (answer : Answer)
+    × (e ≡ event.Do by asked.host asked.ordinal x.sent answer (withdrawn_waiting mid.waiting.items x.names)))
+    → IsSomeAnd (slice_get (pickable_among c (world_of c (trail_of events))) skip) (λ (s : Submission). DoesBy (world_of c (trail_of events)) by e s)
+did-number c commands events spots by skip x old mid e held picked same does =
+    let w : World = world_of c (trail_of events) in
+    let to = turned-to c commands events spots skip x old held picked in
+    let s : Submission = to.submit in
+    let told : (answer : Answer) × (e ≡ event.Do by s.request.host s.request.ordinal x.sent answer (withdrawn_waiting mid.waiting.items x.names)) =
+    subst (λ (o : Option Asked). IsSomeAnd o (λ (asked : Asked). (answer : Answer)
+    × (e ≡ event.Do by asked.host asked.ordinal x.sent answer (withdrawn_waiting mid.waiting.items x.names)))) to.asked does in
+    let place : x.sent ≡ s.request.place = sym (ap (λ (y : WaitingSubmit). y.sent) to.same) in
+    let withdraws : withdrawn_waiting mid.waiting.items x.names ≡ withdrawn_place w.submits s.request =
+    ap (λ (xs : List WaitingSubmit). withdrawn_waiting xs x.names) same ∙ to.withdraws in
+    subst (λ (o : Option Submission). IsSomeAnd o (λ (y : Submission). DoesBy w by e y)) (sym to.found) (record {
+      answer = told.0;
+      event = told.1 ∙ (λ i. event.Do by s.request.host s.request.ordinal (place i) told.0 (withdraws i));
     })
-    allowed)
-done c commands trail by sent e lawful is = absurd is
 
--- the event of a command that was asked for so
-pub is-do : (by sent : ℕ) (o : Option Asked) (e : Event) (aborts : Option ℕ)
-    → IsSomeAnd o (λ (asked : Asked). (answer : Answer) × (e ≡ event.Do by asked.host asked.ordinal sent answer aborts)) → IsDoBy by sent e
-is-do by sent None e aborts h = absurd h
-is-do by sent (Some asked) e aborts h = subst (λ (x : Event). IsDoBy by sent x) (sym h.1) (refl, refl)
+-- what changes but its extents goes on to have room
+pub still-room : (old new : Keep) → HasStore old new → KeepsRoom old new
+still-room old new has depth commands room = subst (λ (k : Keep). HasRoom depth commands k) (sym has.same) (record {
+  waiting = room.waiting;
+  entries = room.entries;
+  kept = room.kept;
+  claims = room.claims;
+  queues = room.queues;
+  ordinals = room.ordinals;
+})
 
 -- ---- nothing is picked
 
