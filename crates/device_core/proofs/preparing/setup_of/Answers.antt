@@ -1,9 +1,8 @@
-use Rattle.std.proofs.Common.{rules, ◌≡◌, ◌∙◌, ℕ, List, None, IsSome, true, IfOk, option_copied, ap, sym, subst}
+use Rattle.std.proofs.Common.{◌≡◌, ◌∙◌, List, None, IsSome, true, IfOk, option_copied, ap, sym, subst}
 use Rattle.cp_base.specs.Configuration.{Configuration}
 use Rattle.cp_base.specs.Sets.{RangeSet}
 use Rattle.cp_base.specs.declared.commands.Command.{Command}
 use Rattle.cp_base.specs.declared.commands.Command.TheVariants as command
-use Rattle.cp_base.specs.declared.lists.MemRange.{MemRange}
 use Rattle.device_model.specs.Checks.{refusal_of}
 use Rattle.device_model.specs.State.{State}
 use Rattle.trail_model.specs.Footprints.{execution_of, is_execution}
