@@ -1,9 +1,8 @@
-use Rattle.std.proofs.Common.{rules, ◌≡◌, ◌∙◌, ℕ, List, None, IsSome, true, IfOk, option_copied, ap, sym, subst}
+use Rattle.std.proofs.Common.{◌≡◌, ◌∙◌, List, None, IsSome, true, IfOk, option_copied, ap, sym, subst}
 use Rattle.cp_base.specs.Configuration.{Configuration}
 use Rattle.cp_base.specs.Sets.{RangeSet}
 use Rattle.cp_base.specs.declared.commands.Command.{Command}
 use Rattle.cp_base.specs.declared.commands.Command.TheVariants as command
-use Rattle.cp_base.specs.declared.lists.MemRange.{MemRange}
 use Rattle.device_model.specs.Checks.{refusal_of}
 use Rattle.device_model.specs.State.{State}
 use Rattle.trail_model.specs.Footprints.{execution_of, is_execution}
@@ -27,7 +26,7 @@ returns-in-Execute-clause-fits c =
     (set-there config s c.in-Execute.slot c.in-Execute.set c.in-Execute.p1 c.in-Execute.p2 c.in-Execute.budget passes) in
     subst
     (λ (cmd : Command). IfOk c.execution_setup.result (λ (setup : Setup). is_execution cmd ≡ true → (sets : List RangeSet)
-        → option_copied c.args.set ≡ set_in sets cmd → FitsSetup (execution_of (tables_of c.args.slots.now sets) cmd) c.args.pieces setup))
+    → option_copied c.args.set ≡ set_in sets cmd → FitsSetup (execution_of (tables_of c.args.slots.now sets) cmd) c.args.pieces setup))
     (sym is)
     (if-ok _ _ c.execution_setup.result (λ setup fits is. fits)
     (setup-fits c.execution_setup.result c.args.slots.now c.in-Execute.slot c.in-Execute.set c.in-Execute.p1 c.in-Execute.p2 c.in-Execute.budget c.args.pieces
