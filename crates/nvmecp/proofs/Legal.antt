@@ -29,7 +29,7 @@ use Rattle.history_model.proofs.Order.{file-order}
 use Rattle.history_model.proofs.Settled.{settled}
 use Rattle.history_model.proofs.Withdrawn.{IsDone}
 use Rattle.nvmecp.specs.Lines.{place_line, place_lines, shown_lines}
-use Rattle.nvmecp.specs.Place.{Place, CarriesOut, IsCarried, count_of, place_of, places_of_items, places_of_parts, places_of_phases, with_part}
+use Rattle.nvmecp.specs.Place.{Place, CarriesOut, IsAnswered, IsCarried, count_of, place_of, places_of_items, places_of_parts, places_of_phases, with_part}
 
 -- The places of a plan's commands are those of its sends.
 
@@ -91,14 +91,14 @@ sents_back c s (sent ∷ sents) [] last h = absurd h
 sents_back c s (sent ∷ sents) (answer ∷ answers) last h = ap (λ (rest : List Sent). sent ∷ rest) (sents_back c h.0 sents answers last h.2)
 
 -- a command that is carried out is one step of the sequential device
-device_step : (c : Configuration) (s : State) (cmd : Command) (answer : Answer) (next : State) → IsCarried c s cmd answer next → DeviceStep c s cmd answer next
-device_step c s cmd answer next (record { step = inl done }) = inl done
-device_step c s cmd answer next (record { step = inr no_memory }) = inr (inl no_memory)
+device_step : (c : Configuration) (s : State) (cmd : Command) (answer : Answer) (next : State) → IsAnswered c s cmd answer next → DeviceStep c s cmd answer next
+device_step c s cmd answer next (inl done) = inl done
+device_step c s cmd answer next (inr no_memory) = inr (inl no_memory)
 
 -- the state after the first command
 first_settled : (c : Configuration) (s : State) (sent : Sent) (answer : Answer) (next : State) → IsCarried c s sent.command answer next
     → next ≡ after_entry c s (record { sent = sent; answer = answer })
-first_settled c s sent answer next carried = settled c s sent.command answer next (device_step c s sent.command answer next carried)
+first_settled c s sent answer next carried = settled c s sent.command answer next (device_step c s sent.command answer next carried.step)
 
 -- the entries are steps of the device, one after the other
 replayed : (c : Configuration) (s : State) (sents : List Sent) (answers : List Answer) (last : State) → CarriesOut c s (map place_of sents) answers last
@@ -108,7 +108,7 @@ replayed c s (sent ∷ sents) [] last h = absurd h
 replayed c s (sent ∷ sents) (answer ∷ answers) last h =
     let after : State = after_entry c s (record { sent = sent; answer = answer }) in
     let is : h.0 ≡ after = first_settled c s sent answer h.0 h.1 in (
-      subst (λ (x : State). DeviceStep c s sent.command answer x) is (device_step c s sent.command answer h.0 h.1),
+      subst (λ (x : State). DeviceStep c s sent.command answer x) is (device_step c s sent.command answer h.0 h.1.step),
       subst (λ (x : State). Replays c x (entries_of sents answers)) is (replayed c h.0 sents answers last h.2),
     )
 
@@ -148,19 +148,19 @@ other_status : status.Ok ≡ status.NoMemory → ⊥
 other_status is = cc
 
 -- an Abort that is carried out one after the other is answered 1
-abort_told : (c : Configuration) (s : State) (cid : ℕ) (answer : Answer) (next : State) → IsCarried c s (command.Abort cid) answer next
+abort_told : (c : Configuration) (s : State) (cid : ℕ) (answer : Answer) (next : State) → IsAnswered c s (command.Abort cid) answer next
     → answer.status ≡ status.Ok → answer.result ≡ 0 → ⊥
-abort_told c s cid answer next (record { step = inl done }) ok none =
+abort_told c s cid answer next (inl done) ok none =
     let told : 1 ≡ answer.result = ap (λ (o : Outcome). o.answer.result) done in
     absurd (omega (arith, told, none))
-abort_told c s cid answer next (record { step = inr no_memory }) ok none =
+abort_told c s cid answer next (inr no_memory) ok none =
     let told : answer.status ≡ status.NoMemory = ap (λ (a : Answer). a.status) no_memory.told in
     other_status (sym ok ∙ told)
 
 withdraws_none : (c : Configuration) (s : State) (sent : Sent) (answer : Answer) (next : State) → IsCarried c s sent.command answer next
     → WithdrawsNone (record { sent = sent; answer = answer })
-withdraws_none c s sent answer next carried by =
-    abort_told c s by.cid answer next (subst (λ (cmd : Command). IsCarried c s cmd answer next) by.abort carried) by.told by.result
+withdraws_none c s sent answer next carried = λ by.
+    abort_told c s by.cid answer next (subst (λ (cmd : Command). IsAnswered c s cmd answer next) by.abort carried.step) by.told by.result
 
 -- none of the commands is an Abort that has withdrawn another
 none_withdraws : (c : Configuration) (s : State) (sents : List Sent) (answers : List Answer) (last : State) → CarriesOut c s (map place_of sents) answers last
