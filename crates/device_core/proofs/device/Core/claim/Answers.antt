@@ -1,10 +1,13 @@
 -- A party turns to a command, and its event is added to the trail.
-use Rattle.std.proofs.Common.{◌≡◌, arith, rules, subst}
+use Rattle.std.proofs.Common.{◌≡◌, List, arith, rules, subst, sym}
 use Rattle.std.specs.Vec.{vec_capacity}
 use Rattle.device_core.specs.Gives.{Gives}
+use Rattle.device_core.specs.Keep.{Holds}
 use Rattle.device_core.specs.Recorded.{Recorded, told_event}
 use Rattle.device_core.specs.declared.answers.Picked.TheVariants as picked
 use Rattle.device_core.specs.declared.claiming.Turned.TheVariants as turned
+use Rattle.device_core.specs.declared.events.Event.{Event as KeptEvent}
+use Rattle.device_core.specs.declared.keep.Keep.{Keep}
 use Rattle.device_core.proofs.Given.{given-claim, given-done, given-nothing, given-rested, read-as, recorded}
 use Rattle.device_core.proofs.Stands.{few-events, held-now, lawful-now, spot-left}
 use Rattle.device_core.proofs.device.Core.claim.Goals as goal
@@ -82,3 +85,24 @@ returns-in-Rested-clause-gives c =
     let turns = read-as k.config k.commands k.trail.items c.deref.result.now c.args.by c.args.skip turned.Rested k.keep c.turn.new.keep c.deref.ensures.value c.in-Rested.ensures.turns in
     subst (λ (d : Recorded). Gives d c.args.by c.args.skip picked.Rested (recorded k.config k.commands k.trail.items)) c.self.view_is
     (given-rested k.config k.commands k.trail.items c.args.by c.args.skip k.keep c.turn.new.keep turns)
+
+pub turn-requires-clause-held : goal.turn-requires-clause-held
+turn-requires-clause-held c =
+    let k = c.self.inside in
+    (vec_capacity k.trail, subst (λ (events : List KeptEvent). Holds k.config k.commands events (vec_capacity k.trail) k.keep) (sym c.deref.ensures.value) c.self.invariant)
+
+pub invariant_of-self-in-Nothing : goal.invariant_of-self-in-Nothing
+invariant_of-self-in-Nothing c =
+    let k = c.self.inside in
+    subst (λ (keep : Keep). Holds k.config k.commands k.trail.items (vec_capacity k.trail) keep) (sym c.in-Nothing.ensures.turns.0) c.self.invariant
+
+pub returns-in-Nothing-clause-lawful : goal.returns-in-Nothing-clause-lawful
+returns-in-Nothing-clause-lawful c = c.self.invariant.stands.lawful
+
+pub invariant_of-self-in-Rested : goal.invariant_of-self-in-Rested
+invariant_of-self-in-Rested c =
+    let k = c.self.inside in
+    subst (λ (keep : Keep). Holds k.config k.commands k.trail.items (vec_capacity k.trail) keep) (sym c.in-Rested.ensures.turns.0) c.self.invariant
+
+pub returns-in-Rested-clause-lawful : goal.returns-in-Rested-clause-lawful
+returns-in-Rested-clause-lawful c = c.self.invariant.stands.lawful
