@@ -11,9 +11,12 @@ use Rattle.device_core.proofs.Stands.{one-more}
 use Rattle.device_core.proofs.Turning.{some-and}
 use Rattle.device_core.specs.Gives.{Claims, Does, Gives}
 use Rattle.device_core.specs.Recorded.{Appends, Recorded, told_event, trail_of, with_event}
-use Rattle.device_core.specs.Turns.{ClaimsBy, DoesBy}
+use Rattle.device_core.specs.Turns.{ClaimsBy, DoesBy, Turns}
 use Rattle.device_core.specs.declared.answers.Picked.TheVariants as picked
+use Rattle.device_core.specs.declared.claiming.Turned.{Turned}
+use Rattle.device_core.specs.declared.claiming.Turned.TheVariants as turned
 use Rattle.device_core.specs.declared.events.Event.{Event as KeptEvent}
+use Rattle.device_core.specs.declared.keep.Keep.{Keep}
 
 -- a device of these events
 abbrev pub recorded : Configuration → ℕ → List KeptEvent → Recorded
@@ -25,6 +28,11 @@ appended c commands events now e told longer same =
     ap (λ (es : List KeptEvent). recorded c commands es) longer
     ∙ (λ k. record { config = c; commands = commands; trail = one-more events e k })
     ∙ ap (λ (x : Event). with_event (recorded c commands events) x) same
+
+-- what a turn comes to by the events that were read
+pub read-as : (c : Configuration) (commands : ℕ) (events read : List KeptEvent) (by skip : ℕ) (t : Turned) (old new : Keep) → read ≡ events
+    → Turns c commands read by skip t old new → Turns c commands events by skip t old new
+read-as c commands events read by skip t old new same turns = subst (λ (es : List KeptEvent). Turns c commands es by skip t old new) same turns
 
 pub given-claim : (c : Configuration) (commands : ℕ) (events now : List KeptEvent) (e : KeptEvent) (by skip claim : ℕ) (work : Work) → now ≡ events ++ e ∷ []
     → claim ≡ length events
@@ -53,3 +61,11 @@ given-done c commands events now e by skip longer does =
       event = appended c commands events now e
           (event.Do by s.request.host s.request.ordinal s.request.place is.answer (withdrawn_place (world_of c (trail_of events)).submits s.request)) longer is.event;
     }) does
+
+pub given-nothing : (c : Configuration) (commands : ℕ) (events : List KeptEvent) (by skip : ℕ) (old new : Keep)
+    → Turns c commands events by skip turned.Nothing old new → Gives (recorded c commands events) by skip picked.Nothing (recorded c commands events)
+given-nothing c commands events by skip old new turns = (refl, turns.1, turns.2)
+
+pub given-rested : (c : Configuration) (commands : ℕ) (events : List KeptEvent) (by skip : ℕ) (old new : Keep)
+    → Turns c commands events by skip turned.Rested old new → Gives (recorded c commands events) by skip picked.Rested (recorded c commands events)
+given-rested c commands events by skip old new turns = (refl, turns.1, turns.2)

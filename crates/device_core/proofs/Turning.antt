@@ -1,6 +1,5 @@
 -- A party's turn to the command of a number.
-use Rattle.std.proofs.Common.{◌≡◌, ℕ, zero, suc, ◌+◌, ◌<◌, ◌≤◌, ◌==◌, Bool, true, false, ◌&&◌, cond, if◌then◌else◌, List, [], ◌∷◌, ◌++◌, filter, length, map, Option, Some, None, IsSome, IsSomeAnd, IsTrue, slice_get, refl, sym, ap, subst, ◌∙◌, arith}
-use Rattle.std.proofs.lemmas.Bool.{true≢false}
+use Rattle.std.proofs.Common.{◌≡◌, ℕ, zero, suc, ◌≤◌, List, [], ◌∷◌, length, map, Option, Some, None, IsSomeAnd, slice_get, refl, sym, ap, subst, ◌∙◌, arith}
 use Rattle.std.proofs.lemmas.List.{length-map}
 use Rattle.std.proofs.lemmas.Option.{same_Some}
 use Rattle.std.specs.List.{AllByRecursion}
@@ -17,8 +16,8 @@ use Rattle.trail_model.proofs.NewSets.{each-filter}
 use Rattle.core_model.specs.Asked.{Asked, asked_at}
 use Rattle.core_model.specs.Parts.{Parts}
 use Rattle.core_model.specs.declared.places.WaitingSubmit.{WaitingSubmit}
-use Rattle.core_model.specs.Picking.{may_pick_asked, pickable_waiting, withdrawn_waiting}
-use Rattle.core_model.specs.Ties.{StandFor, as_waiting, waiting_among}
+use Rattle.core_model.specs.Picking.{pickable_waiting, withdrawn_waiting}
+use Rattle.core_model.specs.Ties.{StandFor, as_waiting}
 use Rattle.device_core.proofs.Turned.{turned-to}
 use Rattle.device_core.specs.Claiming.{HasStore}
 use Rattle.device_core.specs.Keep.{HasRoom, Holds, KeepsRoom, parts_of}
@@ -28,30 +27,6 @@ use Rattle.device_core.specs.declared.events.Event.{Event as KeptEvent}
 use Rattle.device_core.specs.declared.keep.Keep.{Keep}
 
 -- ---- the command of a number
-
--- an item of those that pass
-pub record Passes {A : Type 0} (t : A → Bool) (xs : List A) (x : A) : Type 0 where
-  pub index : ℕ
-  pub found : slice_get xs index ≡ Some x
-  pub passes : t x ≡ true
-
-pub filter-passes : {A : Type 0} (t : A → Bool) (xs : List A) (n : ℕ) (x : A) → slice_get (filter t xs) n ≡ Some x → Passes t xs x
-filter-passes t [] n x e = cc
-filter-passes {A} t (y ∷ ys) n x e = by_test (t y) refl n e (λ m h. filter-passes t ys m x h)
-  where
-    behind : Passes t ys x → Passes t (y ∷ ys) x
-    behind p = record { index = suc p.index; found = p.found; passes = p.passes }
-
-    by_test : (b : Bool) → t y ≡ b → (m : ℕ) → slice_get (cond b (y ∷ filter t ys) (filter t ys)) m ≡ Some x
-        → ((k : ℕ) → slice_get (filter t ys) k ≡ Some x → Passes t ys x) → Passes t (y ∷ ys) x
-    by_test true f zero h later = record { index = 0; found = h; passes = subst (λ (z : A). t z ≡ true) (same_Some y x h) f }
-    by_test true f (suc m) h later = behind (later m h)
-    by_test false f m h later = behind (later m h)
-
--- it waits and may be picked
-pub may-at : (c : Configuration) (p : Parts) (trail : Trail) (skip : ℕ) (x : WaitingSubmit) → slice_get (pickable_waiting c p trail) skip ≡ Some x
-    → Passes (λ (y : WaitingSubmit). may_pick_asked c p (asked_at trail y.sent)) p.waiting x
-may-at c p trail skip x found = filter-passes (λ (y : WaitingSubmit). may_pick_asked c p (asked_at trail y.sent)) p.waiting skip x found
 
 -- the submission of a number, whose place this is
 pub record At (xs : List Submission) (n place : ℕ) : Type 0 where
