@@ -96,14 +96,16 @@ rest-out : (old new : Homes) (p : RegionBytes) (rest : List RegionBytes) → IsB
     → AllByRecursion (IsOut old) rest → AllByRecursion (IsOut new) rest
 rest-out old new p [] back none out = tt
 rest-out old new p (q ∷ rest) back none out =
-    let both = either_false (shares_byte p.region q.region) (meets_any (places_of rest) p.region) none in
-    (record {
-      some = out.0.some;
-      whole = out.0.whole;
-      out = back.holes q.region
-          ∙ (ap (λ (b : Bool). b && not (same_region p.region q.region)) out.0.out
-          ∙ ap not (other-region p.region q.region out.0.some both.0));
-    }, rest-out old new p rest back both.1 out.1)
+    let both = either_false (shares_byte p.region q.region) (meets_any (places_of rest) p.region) none in (
+      record {
+        some = out.0.some;
+        whole = out.0.whole;
+        out = back.holes q.region
+            ∙ (ap (λ (b : Bool). b && not (same_region p.region q.region)) out.0.out
+            ∙ ap not (other-region p.region q.region out.0.some both.0));
+      },
+      rest-out old new p rest back both.1 out.1,
+    )
 
 step-home : (start now next : Homes) (all rest : List RegionBytes) (p : RegionBytes) → Homing start now all (p ∷ rest) → IsBroughtBack now next p.region p.bytes
     → Homing start next all rest

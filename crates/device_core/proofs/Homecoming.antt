@@ -114,7 +114,7 @@ writable-among (x ∷ ranges) = by_test (allows_writing x.access) refl (writable
     by_test true e later = (
       (λ _. inl refl),
       each-weaker (λ (r : MemRange). allows_writing r.access ≡ true → IsAmong r (writable_ranges ranges))
-      (λ (r : MemRange). allows_writing r.access ≡ true → IsAmong r (x ∷ writable_ranges ranges)) (λ r h w. inr (h w)) ranges later,
+          (λ (r : MemRange). allows_writing r.access ≡ true → IsAmong r (x ∷ writable_ranges ranges)) (λ r h w. inr (h w)) ranges later,
     )
     by_test false e later = ((λ h. absurd (true≢false (sym h ∙ e))), later)
 
@@ -149,9 +149,10 @@ apart-firsts d [] none some = tt
 apart-firsts d (r ∷ rs) none some =
     let p = either_false (shares_byte d r) (meets_any rs d) none in
     let q = either_false (r.len == 0) (any_without_bytes rs) some in
-    let own : has_byte r r.space r.start ≡ true = first-byte r ∙ not-empty r.len q.0 in
-    (out-has_byte d r.space r.start (λ inside. unmet (r ∷ []) d r.space r.start (ap (λ (b : Bool). b || false) p.0) inside (inl (has_byte-in r r.space r.start own))),
-    apart-firsts d rs p.1 q.1)
+    let own : has_byte r r.space r.start ≡ true = first-byte r ∙ not-empty r.len q.0 in (
+      out-has_byte d r.space r.start (λ inside. unmet (r ∷ []) d r.space r.start (ap (λ (b : Bool). b || false) p.0) inside (inl (has_byte-in r r.space r.start own))),
+      apart-firsts d rs p.1 q.1,
+    )
 
 -- a range begins in what may be written exactly where it may be written itself
 starts : (ranges : List MemRange) → any_overlap (map range_region ranges) ≡ false → any_without_bytes (map range_region ranges) ≡ false
@@ -327,8 +328,8 @@ runs-apart d sources none some =
     by_runs [] long within = tt
     by_runs (r ∷ rs) long within = (
       or-none (has_byte d r.space r.start)
-      ∙ out-has_byte d r.space r.start (λ inside. unmet sources d r.space r.start none inside
-      (within r.space r.start (inl (refl, omega arith, (let some = long.0 in omega arith))))),
+          ∙ out-has_byte d r.space r.start (λ inside. unmet sources d r.space r.start none inside
+          (within r.space r.start (inl (refl, omega arith, (let some = long.0 in omega arith))))),
       by_runs rs long.1 (λ s k there. within s k (inr there)),
     )
 

@@ -81,9 +81,9 @@ pub shown : (c : Configuration) (commands : ℕ) (events : List KeptEvent) (spot
 shown c commands events spots k r bytes held there are =
     ⊎_elim {C = bytes ≡ bytes_in (world_of c (trail_of events)).state.contents r} (λ (some : 0 < r.len). shown-bytes c commands events spots k r bytes held there are some)
     (λ (none : r.len ≤ 0). (
-      let len = are.length in
-      let empty : r.len ≡ 0 = omega arith in
-      no-bytes bytes (omega arith) ∙ sym (ap (λ (n : ℕ). piece (bytes_of (world_of c (trail_of events)).state.contents r.space) r.start n) empty)))
+    let len = are.length in
+    let empty : r.len ≡ 0 = omega arith in
+    no-bytes bytes (omega arith) ∙ sym (ap (λ (n : ℕ). piece (bytes_of (world_of c (trail_of events)).state.contents r.space) r.start n) empty)))
     (cases_lt 0 r.len)
   where
     no-bytes : (xs : List ℕ) → length xs ≡ 0 → xs ≡ []

@@ -39,10 +39,10 @@ pub held-after : (c : Configuration) (commands : ℕ) (events : List KeptEvent) 
 held-after c commands events e spots old new held stands keeps = record {
   few = held.few;
   stands = (
-    let longer : length events + 1 ≡ length (events ++ e ∷ []) = omega (arith, length-append events (e ∷ [])) in
-    subst (λ (n : ℕ). StandFor c commands (parts_of n new) (trail_of (events ++ e ∷ []))) longer
-    (subst (λ (t : Trail). StandFor c commands (parts_of (length events + 1) new) t) (sym (one-more events e)) stands)
-  );
+      let longer : length events + 1 ≡ length (events ++ e ∷ []) = omega (arith, length-append events (e ∷ [])) in
+      subst (λ (n : ℕ). StandFor c commands (parts_of n new) (trail_of (events ++ e ∷ []))) longer
+      (subst (λ (t : Trail). StandFor c commands (parts_of (length events + 1) new) t) (sym (one-more events e)) stands)
+      );
   room = keeps c.depth commands held.room;
   places = held.places;
 }

@@ -16,9 +16,9 @@ ghost use Rattle.device_core.specs.Recorded.{Appends, told_event, with_event};
 
 use crate::Event;
 use crate::answers::{EntryRef, Picked};
+use crate::claiming::{Turned, turn};
 use crate::entries::{Withdrawn, entry_at, entry_in};
 use crate::finishing::bring_home;
-use crate::claiming::{Turned, turn};
 use crate::keep::Keep;
 use crate::picking::count_pickable;
 use crate::queues::posted_under;
@@ -86,12 +86,7 @@ impl Core {
     /// `Spent` where as many commands were submitted as may be in all; else `QueueFull` where as many of the
     /// host's commands are outstanding as may be; else `CidBusy` where one of them is outstanding under the
     /// identifier. Then nothing changes, and the command is handed back.
-    pub fn submit(
-        &mut self,
-        by: u32,
-        cid: u32,
-        command: Arc<Command>,
-    ) -> Result<u32, SubmitRefused>
+    pub fn submit(&mut self, by: u32, cid: u32, command: Arc<Command>) -> Result<u32, SubmitRefused>
         requires { (1 ≤ by) × (by ≤ MAX_HOSTS) }
         ensures checked { MatchResult result
             (λ _. submit_cause self.old.config self.old.commands (world_of self.old.config self.old.trail) by cid ≡ None)

@@ -56,8 +56,13 @@ fn reply_to<'a>(trail: &'a [Event], withdrawn: &'a Reply, entry: EntryPlaces) ->
 {
     match trail.get(entry.posted as usize)? {
         Event::Finish { reply, .. } => Some(reply),
-        Event::Do { sent, reply, .. } => Some(if *sent == entry.sent { reply } else { withdrawn }),
-        Event::Submit { .. } | Event::Claim { .. } | Event::Take { .. } | Event::Rest { .. } => None,
+        Event::Do { sent, reply, .. } => Some(if *sent == entry.sent {
+            reply
+        } else {
+            withdrawn
+        }),
+        Event::Submit { .. } | Event::Claim { .. } | Event::Take { .. } | Event::Rest { .. } =>
+            None,
     }
 }
 

@@ -21,7 +21,11 @@ pub enum Event {
         sent: u32,
     },
     /// A party has carried out what it claimed at place `claim`.
-    Finish { by: u32, claim: u32, reply: Reply },
+    Finish {
+        by: u32,
+        claim: u32,
+        reply: Reply,
+    },
     /// A party does the command of the submit at place `sent` at once. An Abort that withdraws a command
     /// has the place of its submit in `aborts`.
     Do {
@@ -33,7 +37,13 @@ pub enum Event {
         aborts: Option<u32>,
     },
     /// A host takes the reply to its command of this identifier, which was posted at place `posted`.
-    Take { by: u32, cid: u32, posted: u32 },
+    Take {
+        by: u32,
+        cid: u32,
+        posted: u32,
+    },
     /// A party says that the hosts send nothing more for now.
-    Rest { by: u32 },
+    Rest {
+        by: u32,
+    },
 }

@@ -17,6 +17,6 @@ returns-clause-posted c apart =
     let picks : Outstanding = record { cid = cid; sent = sent; stage = Picked } in
     let picked = c.pick.ensures.by_place waits c.requires apart in
     let there : under c.pick.new.self.commands cid ≡ Some picks =
-        ap (λ q. under q.commands cid) c.pick.ensures.picked ∙ under_restaged old cid Picked waits c.requires in
+    ap (λ q. under q.commands cid) c.pick.ensures.picked ∙ under_restaged old cid Picked waits c.requires in
     c.post.ensures.by_place picks there (subst PlacesDiffer (sym picked) (restaged-differ old sent Picked apart))
     ∙ (ap (λ (q : List Outstanding). restaged q sent (Posted c.args.posted)) picked ∙ restaged-twice old sent Picked (Posted c.args.posted))

@@ -33,7 +33,7 @@ push_reserved-requires c =
     let room = vec_capacity k.trail in
     let cause = c.in-Ok.ensures.checked k.config.depth c.self.invariant.room.queues in
     let stands = submitted k.config k.commands k.trail.items room c.args.by c.args.cid c.len-sent.result c.in-Ok.ordinal (arc_value c.args.command) c.deref.result.now k.keep c.submit.new.self
-        c.self.invariant c.requires (omega arith) cause (omega arith) c.deref.ensures c.in-Ok.ensures.ordinal c.in-Ok.ensures.moves in
+    c.self.invariant c.requires (omega arith) cause (omega arith) c.deref.ensures c.in-Ok.ensures.ordinal c.in-Ok.ensures.moves in
     let left = spot-left k.config k.commands k.trail.items (event.Submit c.args.by c.args.cid c.in-Ok.ordinal (arc_value c.args.command)) room k.keep c.self.invariant stands.lawful in
     omega arith
 
@@ -43,7 +43,7 @@ invariant_of-self c =
     let room = vec_capacity k.trail in
     let cause = c.in-Ok.ensures.checked k.config.depth c.self.invariant.room.queues in
     let stands = submitted k.config k.commands k.trail.items room c.args.by c.args.cid c.len-sent.result c.in-Ok.ordinal (arc_value c.args.command) c.deref.result.now k.keep c.submit.new.self
-        c.self.invariant c.requires (omega arith) cause (omega arith) c.deref.ensures c.in-Ok.ensures.ordinal c.in-Ok.ensures.moves in
+    c.self.invariant c.requires (omega arith) cause (omega arith) c.deref.ensures c.in-Ok.ensures.ordinal c.in-Ok.ensures.moves in
     held-now k.config k.commands k.trail.items (kept.Submit c.args.by c.args.cid c.in-Ok.ordinal c.args.command) room k.keep c.submit.new.self _ _
     c.self.invariant stands c.submit.ensures.room c.push_reserved.ensures.items c.push_reserved.ensures.capacity
 
@@ -64,7 +64,7 @@ returns-in-Ok-clause-lawful c =
     let room = vec_capacity k.trail in
     let cause = c.in-Ok.ensures.checked k.config.depth c.self.invariant.room.queues in
     let stands = submitted k.config k.commands k.trail.items room c.args.by c.args.cid c.len-sent.result c.in-Ok.ordinal (arc_value c.args.command) c.deref.result.now k.keep c.submit.new.self
-        c.self.invariant c.requires (omega arith) cause (omega arith) c.deref.ensures c.in-Ok.ensures.ordinal c.in-Ok.ensures.moves in
+    c.self.invariant c.requires (omega arith) cause (omega arith) c.deref.ensures c.in-Ok.ensures.ordinal c.in-Ok.ensures.moves in
     lawful-now k.config k.commands k.trail.items (kept.Submit c.args.by c.args.cid c.in-Ok.ordinal c.args.command) c.submit.new.self _ stands c.push_reserved.ensures.items
 
 pub returns-in-Err-clause-checked : goal.returns-in-Err-clause-checked
