@@ -125,3 +125,7 @@ none-queued c commands p trail stand e = by_list (queued_among (world_of c trail
 
 pub none-waits : (c : Configuration) (commands : ℕ) (p : Parts) (trail : Trail) → StandFor c commands p trail → queued_among (world_of c trail).submits ≡ [] → p.waiting ≡ []
 none-waits c commands p trail stand e = stand.ties.waiting ∙ ap (λ (xs : List Submission). map as_waiting xs) e
+
+pub none-left : {A : Type 0} (xs : List A) → length xs ≡ 0 → xs ≡ []
+none-left [] e = refl
+none-left (x ∷ xs) e = absurd (omega (arith, e))

@@ -5,9 +5,9 @@ use Rattle.core_model.specs.Asked.{asked_at}
 use Rattle.core_model.specs.declared.places.WaitingSubmit.{WaitingSubmit}
 use Rattle.device_core.specs.Keep.{parts_of}
 use Rattle.device_core.specs.Recorded.{trail_of}
-use Rattle.device_core.proofs.Claimed.{still-pickable, still-waiting}
+use Rattle.device_core.proofs.Claimed.{still-held, still-pickable, still-waiting}
 use Rattle.device_core.proofs.Turned.{kept-fits, picked-waits}
-use Rattle.device_core.proofs.Turning.{did-number, few-pickable, none-waits, of-number, still-room}
+use Rattle.device_core.proofs.Turning.{did-number, few-pickable, none-left, none-queued, none-waits, of-number, still-room}
 use Rattle.device_core.proofs.claiming.turn.Goals.{else-keep-via-then-keep+else-is_empty, else-keep-via-else-keep}
 use Rattle.device_core.proofs.claiming.turn.Goals as goal
 
@@ -69,3 +69,16 @@ returns-in-None-clause-turns c = (
 pub returns-in-None-clause-room : goal.returns-in-None-clause-room
 returns-in-None-clause-room c depth commands room =
     c.do_now.ensures.room depth commands (still-room c.args.keep.now c.claim_now.new.keep c.in-None.ensures.unchanged depth commands room)
+
+pub do_now-requires-clause-held : goal.do_now-requires-clause-held
+do_now-requires-clause-held c =
+    let keep = c.args.keep.now in
+    (c.requires.held.0, still-held c.args.config.now c.args.commands c.args.trail.now c.requires.held.0 keep c.claim_now.new.keep c.requires.held.1 c.in-None.ensures.unchanged)
+
+pub returns-then-is_empty-clause-turns : goal.returns-then-is_empty-clause-turns
+returns-then-is_empty-clause-turns c =
+    let p = parts_of (length c.args.trail.now) c.args.keep.now in
+    let stands = c.requires.held.1.stands in
+    let len : length c.args.keep.now.waiting.items ≡ 0 = grind (arith, c.is_empty.ensures, c.if-is_empty.true) in
+    (refl, sym stands.ties.at_rest ∙ c.if-keep.true,
+    none-queued c.args.config.now c.args.commands p (trail_of c.args.trail.now) stands (none-left c.args.keep.now.waiting.items len))
