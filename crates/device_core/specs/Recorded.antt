@@ -35,12 +35,3 @@ with_event d e = record d { trail = d.trail ++ e ∷ [] }
 -- one event has happened, and nothing else
 abbrev pub Appends : Recorded → Recorded → Event → Type 0
 Appends old new e = new ≡ with_event old e
-
--- an event is that of a party which did the command of a submit at once
-abbrev pub IsDoBy : ℕ → ℕ → Event → Type 0
-IsDoBy by sent (event.Submit party cid ordinal cmd) = ⊥
-IsDoBy by sent (event.Claim party host ordinal place) = ⊥
-IsDoBy by sent (event.Finish party claim answer) = ⊥
-IsDoBy by sent (event.Do party host ordinal place answer aborts) = (party ≡ by) × (place ≡ sent)
-IsDoBy by sent (event.Take party cid posted) = ⊥
-IsDoBy by sent (event.Rest party) = ⊥
