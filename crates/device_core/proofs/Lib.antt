@@ -1,3 +1,16 @@
+pub mod Begun
+pub mod Carrying
+pub mod Claimed
+pub mod Done
+pub mod Fetched
+pub mod Finished
+pub mod Given
+pub mod Homecoming
+pub mod Pickable
+pub mod Prepared
 pub mod Restaged
+pub mod Shown
 pub mod Stands
 pub mod Told
+pub mod Turned
+pub mod Turning

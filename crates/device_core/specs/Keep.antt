@@ -1,9 +1,12 @@
 -- How the core keeps the parts of its device. This project's own.
-use Rattle.std.specs.Prelude.{◌≡◌, ℕ, ◌+◌, ◌*◌, ◌≤◌, ◌==◌, if◌then◌else◌, List, [], Option, None, Some, length, map, unwrap_or, vec_capacity}
+use Rattle.std.specs.Prelude.{◌≡◌, ℕ, ◌+◌, ◌*◌, ◌<◌, ◌≤◌, ◌==◌, if◌then◌else◌, List, [], Option, None, Some, length, map, unwrap_or, vec_capacity, vec_len}
 use Rattle.std.specs.List.{AllByRecursion}
 use Rattle.cp_base.specs.Configuration.{Configuration, numbered}
 use Rattle.cp_base.specs.declared.limits.TheConstants.{MAX_COMMANDS, MAX_HOSTS}
-use Rattle.queue_pairs.specs.Outstanding.{CidsDiffer, QueuePair}
+use Rattle.queue_pairs.specs.Outstanding.{CidsDiffer, QueuePair, under}
+use Rattle.queue_pairs.specs.Places.{PlacesDiffer}
+use Rattle.queue_pairs.specs.declared.command.Stage.TheVariants.{Queued}
+use Rattle.core_model.specs.Asked.{Asked}
 use Rattle.queue_pairs.specs.declared.command.Outstanding.{Outstanding as Waiting}
 use Rattle.range_claims.specs.declared.claims.Claim.{Claim}
 use Rattle.extents.specs.Homes.{is_hole, known_at}
@@ -78,6 +81,13 @@ pub record HasRoom (depth commands : ℕ) (k : Keep) : Type 0 where
 -- what has room goes on to have it
 abbrev pub KeepsRoom : Keep → Keep → Type 0
 KeepsRoom old new = (depth commands : ℕ) → HasRoom depth commands old → HasRoom depth commands new
+
+-- The reply to what a submit asks for can be posted: its command waits in its host's queue, and there is room for an entry.
+pub record CanPost (k : Keep) (asked : Asked) (sent : ℕ) : Type 0 where
+  pub host : (1 ≤ asked.host) × (asked.host ≤ length k.queues.items)
+  pub waits : under (queue_of k.queues.items asked.host) asked.cid ≡ Some (let x : Waiting = record { cid = asked.cid; sent = sent; stage = Queued } in x)
+  pub apart : PlacesDiffer (queue_of k.queues.items asked.host)
+  pub room : vec_len k.entries < vec_capacity k.entries
 
 -- What is kept stands for the trail of these events, in a list with room for so many: the parts do, at most the most commands
 -- may be submitted, and there is room for all of them.

@@ -1,4 +1,10 @@
 pub mod AtOnce
+pub mod Claiming
+pub mod Gives
+pub mod Homecoming
 pub mod Keep
+pub mod Portions
+pub mod Preparing
 pub mod Reading
 pub mod Recorded
+pub mod Turns

@@ -15,8 +15,8 @@ use range_sets::Sets;
 use slm_bytes::bytes_to_range;
 use std::alloc::Global;
 
-// Whether the device has a program of its own in a slot: in the four behind those that hosts load.
-fn is_builtin(slot: u32) -> bool
+/// Whether the device has a program of its own in a slot: in the four behind those that hosts load.
+pub(crate) fn is_builtin(slot: u32) -> bool
     ensures { result ≡ is_some (builtin_at slot) }
 {
     match slot.checked_sub(SLOTS) {

@@ -1,16 +1,29 @@
 // The core itself.
-ghost use Rattle.std.specs.Prelude.{◌≡◌, ◌≤◌, [], None, Ok, Some, length, if◌then◌else◌, IfErr, IfOk, OnErr, OnOk, MatchResult, option_copied, option_map, slice_get};
+ghost use Rattle.std.specs.Prelude.{◌≡◌, ◌≤◌, [], ℕ, None, Ok, Some, IsSome, IsSomeAnd, IsTrue, length, if◌then◌else◌, IfErr, IfOk, OnErr, OnOk, MatchResult, option_copied, option_map, slice_get};
 ghost use Rattle.std.specs.Arc.{arc_value};
+ghost use Rattle.cp_base.specs.Answer.{answer_of};
+ghost use Rattle.cp_base.specs.Growth.{Appended};
+ghost use Rattle.cp_base.specs.Contents.{bytes_in};
+ghost use Rattle.cp_base.specs.Sharing.{IsIn};
+ghost use Rattle.cp_base.specs.declared.region.SpaceId.{SpaceId};
 ghost use Rattle.cp_base.specs.declared.limits.TheConstants.{MAX_COMMANDS, MAX_HOSTS};
-ghost use Rattle.trail_model.specs.Lawful.{IsLawful, IsParty, history_of, world_of};
-ghost use Rattle.trail_model.specs.World.{home, ordinal_after};
+ghost use Rattle.trail_model.specs.Lawful.{IsLawful, IsParty, history_of, is_idle, world_of};
+ghost use Rattle.trail_model.specs.World.{claim_at, home, ordinal_after, pickable_among};
 ghost use Rattle.trail_model.specs.declared.events.Event.TheVariants as event;
 ghost use Rattle.core_model.specs.Causes.{submit_cause, take_answer};
+ghost use Rattle.device_core.specs.Gives.{Gives, HasWorked, ended_as_shown, ended_by, world_in};
 ghost use Rattle.device_core.specs.Recorded.{Appends, told_event, with_event};
 
 use crate::Event;
+use crate::answers::{EntryRef, Picked};
+use crate::claiming::{Turned, turn};
+use crate::entries::{Withdrawn, entry_at, entry_in};
+use crate::finishing::bring_home;
 use crate::keep::Keep;
-use cp_base::{Command, Config, NoMemory, SpaceId};
+use crate::picking::count_pickable;
+use crate::queues::posted_under;
+use cp_base::{ByteRange, Bytes, Command, Config, NoMemory, SpaceId};
+use job_run::Worked;
 use queue_pairs::{SendCause, TakeCause};
 use std::alloc::Global;
 use std::marker::Model;
@@ -27,10 +40,12 @@ pub struct SubmitRefused {
 /// trail of all events.
 #[derive(Debug, Drop)]
 pub struct Core {
+    alloc: Global,
     config: Config,
     commands: u32,
     trail: Vec<Event>,
     keep: Keep,
+    withdrawn: Withdrawn,
 }
 
 impl Model for Core {
@@ -55,10 +70,12 @@ impl Core {
         let keep = Keep::new(alloc, config, commands)?;
         let trail = Vec::with_capacity(alloc, 5 * commands as usize + 1)?;
         Ok(Core {
+            alloc,
             config: *config,
             commands,
             trail,
             keep,
+            withdrawn: Withdrawn::new(alloc),
         })
     }
 
@@ -155,5 +172,87 @@ impl Core {
         ensures { option_map told_event (option_copied result) ≡ slice_get self.now.trail place }
     {
         self.trail.get(place as usize)
+    }
+
+    /// The place in the trail where the reply to a host's command of an identifier stands, which stays there to be taken.
+    ///
+    /// # Errors
+    ///
+    /// As for `take`.
+    pub fn posted(&self, by: u32, cid: u32) -> Result<u32, TakeCause>
+        requires { (1 ≤ by) × (by ≤ MAX_HOSTS) }
+        ensures { result ≡ take_answer (world_of self.now.config self.now.trail) by cid }
+    {
+        posted_under(&self.keep.queues, by, cid)
+    }
+
+    /// How many queued commands may be picked.
+    pub fn pickable(&self) -> u32
+        ensures { result ≡ length (pickable_among self.now.config (world_in self.now)) }
+    {
+        count_pickable(self.alloc, &self.config, &self.keep, &self.trail) as u32
+    }
+
+    /// A party without an open claim turns to the command number `skip`, from 0 in order of submission, of those that may
+    /// be picked. One that moves bytes and passes its checks is claimed, where there is the memory for it; each other one is
+    /// done at once.
+    pub fn claim(&mut self, by: u32, skip: u32) -> Picked
+        requires party { IsParty by }
+        requires idle { IsTrue (is_idle (world_in self.old) by) }
+        ensures gives { Gives self.old by skip result self.new }
+        ensures lawful { IsLawful self.new.config self.new.commands self.new.trail }
+    {
+        let claim = self.trail.len() as u32;
+        match turn(
+            &mut self.keep,
+            self.alloc,
+            &self.config,
+            self.commands,
+            &self.trail,
+            by,
+            skip,
+        ) {
+            Turned::Claimed(event, work) => {
+                self.trail.push_reserved(event);
+                Picked::Claimed { work, claim }
+            }
+            Turned::Did(event) => {
+                self.trail.push_reserved(event);
+                Picked::Did
+            }
+            Turned::Nothing => Picked::Nothing,
+            Turned::Rested => Picked::Rested,
+        }
+    }
+
+    /// A party finishes the open claim that it made at a place of the trail: the bytes come home, and the reply is posted.
+    pub fn finish(&mut self, by: u32, claim: u32, worked: Worked)
+        requires { IsSomeAnd (claim_at (world_in self.old).claims claim) (λ opened. HasWorked self.old by worked opened) }
+        ensures finished { Appends self.old self.new (event.Finish by claim (answer_of worked.reply)) }
+        ensures lawful { IsLawful self.new.config self.new.commands self.new.trail }
+    {
+        let Worked { pieces, reply } = worked;
+        bring_home(&mut self.keep, &self.trail, claim, pieces);
+        self.trail.push_reserved(Event::Finish { by, claim, reply });
+    }
+
+    /// The entry of a number of the history, from 0. `None` where the history does not go so far.
+    pub fn entry(&self, k: u32) -> Option<EntryRef<'_>>
+        ensures { option_map ended_as_shown result
+            ≡ option_map ended_by (slice_get (history_of self.now.config self.now.trail) k) }
+    {
+        let entry = entry_at(&self.keep.entries, k)?;
+        entry_in(&self.trail, self.withdrawn.reply(), entry)
+    }
+
+    /// Appends the bytes of a range, all of which are at home, to a buffer that has room for them. It takes no
+    /// memory.
+    pub fn append(&self, range: &ByteRange, out: &mut Bytes)
+        requires home { (space : SpaceId) (offset : ℕ) → IsIn range.now space offset
+            → IsSome (home self.now.config (world_in self.now) space offset) }
+        requires room { range.now.len ≤ out.old.spare }
+        ensures { Appended out.old out.new (bytes_in (world_in self.now).state.contents range.now) }
+    {
+        self.keep.store.append(range, out);
     }
 }

@@ -1,18 +1,25 @@
 // Commands done at once.
-ghost use Rattle.std.specs.Prelude.{◌≡◌, ◌+◌, ◌<◌, ◌≤◌, ℕ, Option, Some, is_some, if◌then◌else◌, IsTrue, length, vec_capacity, vec_len};
-ghost use Rattle.cp_base.specs.Answer.{answer_of};
+ghost use Rattle.std.specs.Prelude.{◌≡◌, ◌+◌, ◌<◌, ◌≤◌, ◌++◌, ◌∷◌, [], ℕ, Option, Some, is_some, if◌then◌else◌, IfSome, IsSomeAnd, IsTrue, length, slice_get, vec_capacity, vec_len};
+ghost use Rattle.cp_base.specs.Answer.{Answer, answer_of};
 ghost use Rattle.device_model.specs.Execution.{tells};
 ghost use Rattle.device_model.specs.Memory.{moves_bytes};
 ghost use Rattle.trail_model.specs.World.{is_no_memory};
+ghost use Rattle.trail_model.specs.declared.events.Event.TheVariants as event;
 ghost use Rattle.device_core.specs.AtOnce.{IsDoneAtOnce, changes_tables};
 ghost use Rattle.cp_base.specs.declared.limits.TheConstants.{MAX_HOSTS};
 ghost use Rattle.queue_pairs.specs.Outstanding.{under};
 ghost use Rattle.queue_pairs.specs.Places.{PlacesDiffer};
-ghost use Rattle.core_model.specs.Moves.{PostMoves, without_waiting};
+ghost use Rattle.trail_model.specs.Lawful.{IsParty, is_idle, world_of};
+ghost use Rattle.core_model.specs.Asked.{asked_at};
+ghost use Rattle.core_model.specs.Moves.{PostMoves, WithdrawMoves, without_waiting};
 ghost use Rattle.core_model.specs.Parts.{tables_of};
-ghost use Rattle.core_model.specs.Picking.{is_waiting, withdrawn_waiting};
-ghost use Rattle.device_core.specs.Keep.{KeepsRoom, parts_of, queue_of};
+ghost use Rattle.core_model.specs.Picking.{is_waiting, may_pick_asked, withdrawn_waiting};
+ghost use Rattle.core_model.specs.Ties.{StandFor};
+ghost use Rattle.device_core.specs.Recorded.{told_event, trail_of};
+ghost use Rattle.device_core.specs.Keep.{CanPost, Holds, KeepsRoom, parts_of, queue_of};
 
+use crate::Event;
+use crate::asked::asked_in;
 use crate::checks::check_moving;
 use crate::keep::Keep;
 use crate::queues::post_in;
@@ -42,8 +49,8 @@ fn withdrawn(waiting: &[WaitingSubmit], names: Option<u32>) -> Option<u32>
     None
 }
 
-// Those that wait, without the one of a submit.
-fn leave_out(waiting: &mut Vec<WaitingSubmit>, sent: u32)
+/// Those that wait, without the one of a submit.
+pub(crate) fn leave_out(waiting: &mut Vec<WaitingSubmit>, sent: u32)
     ensures left { waiting.new.items ≡ without_waiting waiting.old.items sent }
     ensures capacity { vec_capacity waiting.new ≡ vec_capacity waiting.old }
 {
@@ -139,5 +146,62 @@ impl Keep {
         leave_out(&mut self.waiting, sent);
         post_in(&mut self.queues, host, cid, sent, posted);
         self.entries.push_reserved(EntryPlaces { sent, posted });
+    }
+}
+
+// Posts the reply to the command that an Abort withdraws, where it withdraws one: at the Abort's own place.
+fn post_withdrawn(keep: &mut Keep, trail: &[Event], aborts: Option<u32>, posted: u32)
+    requires { IfSome aborts (λ place. IsSomeAnd (asked_at (trail_of trail.now) place) (λ asked. CanPost keep.old asked place)) }
+    ensures moves { WithdrawMoves (trail_of trail.now) (parts_of (posted + 1) keep.old) (parts_of (posted + 1) keep.new) posted aborts }
+    ensures room { KeepsRoom keep.old keep.new }
+{
+    if let Some(place) = aborts {
+        let asked = asked_in(trail, place).unwrap();
+        keep.post(asked.host, asked.cid, place, posted);
+    }
+}
+
+/// Does a command that waits and may be picked at once: it is carried out or refused, or told that there is no
+/// memory. The answer is its event.
+pub(crate) fn do_now(
+    keep: &mut Keep,
+    alloc: Global,
+    config: &Config,
+    commands: u32,
+    trail: &[Event],
+    by: u32,
+    x: WaitingSubmit,
+) -> Event
+    requires held { (spots : ℕ) × Holds config.now commands trail.now spots keep.old }
+    requires party { IsParty by }
+    requires idle { IsTrue (is_idle (world_of config.now (trail_of trail.now)) by) }
+    requires waits { (i : ℕ) × (slice_get keep.old.waiting.items i ≡ Some x) }
+    requires may { IsTrue (may_pick_asked config.now (parts_of (length trail.now) keep.old) (asked_at (trail_of trail.now) x.sent)) }
+    ensures stands { StandFor config.now commands (parts_of (length trail.now + 1) keep.new)
+        (trail_of trail.now ++ told_event result ∷ []) }
+    ensures does { IsSomeAnd (asked_at (trail_of trail.now) x.sent) (λ asked. (answer : Answer) × (told_event result
+        ≡ event.Do by asked.host asked.ordinal x.sent answer (withdrawn_waiting keep.old.waiting.items x.names))) }
+    ensures room { KeepsRoom keep.old keep.new }
+{
+    let asked = asked_in(trail, x.sent).unwrap();
+    let aborts = withdrawn(&keep.waiting, x.names);
+    let posted = trail.len() as u32;
+    let reply = tell(
+        alloc,
+        config,
+        &mut keep.slots,
+        &mut keep.sets,
+        asked.command,
+        aborts,
+    );
+    keep.post(asked.host, asked.cid, x.sent, posted);
+    post_withdrawn(keep, trail, aborts, posted);
+    Event::Do {
+        by,
+        host: asked.host,
+        ordinal: asked.ordinal,
+        sent: x.sent,
+        reply,
+        aborts,
     }
 }

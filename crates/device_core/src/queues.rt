@@ -64,6 +64,20 @@ pub(crate) fn sent_under(queues: &[Queue], host: u32, cid: u32) -> Option<u32>
     Some(command.sent)
 }
 
+/// The place where the reply to a host's command of an identifier is posted, to be taken.
+pub(crate) fn posted_under(queues: &[Queue], host: u32, cid: u32) -> Result<u32, TakeCause>
+    requires { (1 ≤ host) × (host ≤ length queues.now) }
+    ensures { result ≡ taken (under (queue_of queues.now host) cid) }
+{
+    let Some(command) = queues[host as usize - 1].get(cid) else {
+        return Err(TakeCause::NotOutstanding);
+    };
+    match command.stage {
+        Stage::Posted(place) => Ok(place),
+        Stage::Queued | Stage::Picked => Err(TakeCause::NotYet),
+    }
+}
+
 /// Posts the reply to a host's command that waits, at a place of the trail.
 pub(crate) fn post_in(queues: &mut Vec<Queue>, host: u32, cid: u32, sent: u32, posted: u32)
     requires host { (1 ≤ host) × (host ≤ length queues.old.items) }
@@ -88,5 +102,30 @@ fn post_to(queue: &mut Queue, cid: u32, sent: u32, posted: u32)
     ensures cids_differ { CidsDiffer queue.new.commands }
 {
     queue.pick(cid);
+    queue.post(cid, posted);
+}
+
+/// Posts the reply to a host's command that was claimed, at a place of the trail.
+pub(crate) fn post_claimed(queues: &mut Vec<Queue>, host: u32, cid: u32, sent: u32, posted: u32)
+    requires host { (1 ≤ host) × (host ≤ length queues.old.items) }
+    requires claimed { under (queue_of queues.old.items host) cid
+        ≡ Some (record { cid = cid; sent = sent; stage = Stage.Picked }) }
+    ensures posted { PlacesDiffer (queue_of queues.old.items host)
+        → OnlyQueue queues.old.items queues.new.items host
+        (restaged (queue_of queues.old.items host) sent (Stage.Posted posted)) }
+    ensures queues { (depth : ℕ) → AreQueues depth queues.old.items → AreQueues depth queues.new.items }
+{
+    let queue = &mut queues[host as usize - 1];
+    post_picked(queue, cid, sent, posted);
+}
+
+// Posts the reply to a command that was picked.
+fn post_picked(queue: &mut Queue, cid: u32, sent: u32, posted: u32)
+    requires { under queue.old.commands cid ≡ Some (record { cid = cid; sent = sent; stage = Stage.Picked }) }
+    ensures depth { queue.new.depth ≡ queue.old.depth }
+    ensures posted { PlacesDiffer queue.old.commands
+        → queue.new.commands ≡ restaged queue.old.commands sent (Stage.Posted posted) }
+    ensures cids_differ { CidsDiffer queue.new.commands }
+{
     queue.post(cid, posted);
 }

@@ -1,4 +1,5 @@
-use Rattle.std.proofs.Common.{◌≡◌, length, arith, rules, subst}
+use Rattle.std.proofs.Common.{◌≡◌, ◌∙◌, length, arith, rules, subst}
+use Rattle.std.specs.Vec.{vec_capacity}
 use Rattle.trail_model.specs.Lawful.{history_of}
 use Rattle.core_model.proofs.Entries.{entries-number}
 use Rattle.core_model.proofs.Numbers.{all-submits}

@@ -1,0 +1,52 @@
+-- What is prepared for a claim. This project's own.
+use Rattle.std.specs.Prelude.{◌≡◌, ◌≤◌, ℕ, List, [], Option, None, Some, option_map, replicate, vec_capacity}
+use Rattle.cp_base.specs.Configuration.{Configuration}
+use Rattle.cp_base.specs.Region.{Region}
+use Rattle.cp_base.specs.Sets.{RangeSet, ranges_under}
+use Rattle.cp_base.specs.declared.commands.Command.{Command}
+use Rattle.cp_base.specs.declared.commands.Command.TheVariants as command
+use Rattle.cp_base.specs.declared.lists.MemRange.{MemRange}
+use Rattle.cp_base.specs.declared.spans.Footprint.{Footprint}
+use Rattle.bpf_model.specs.Address.{stack_len}
+use Rattle.device_model.specs.State.{State}
+use Rattle.trail_model.specs.Footprints.{Execution, carried_regions, execution_of, footprint_of, writes_of}
+use Rattle.job_run.specs.Works.{IsCodeOf}
+use Rattle.device_core.specs.declared.preparing.Setup.{Setup}
+
+-- what a command touches in a state
+abbrev pub touched_in : Configuration → State → Command → Footprint
+touched_in c s cmd = footprint_of c (execution_of s cmd).ranges cmd
+
+-- the regions that it carries
+abbrev pub carried_in : Configuration → State → Command → List Region
+carried_in c s cmd = carried_regions c (execution_of s cmd).ranges cmd
+
+-- the regions that are taken out for it
+abbrev pub taken_in : Configuration → State → Command → List Region
+taken_in c s cmd = writes_of c (execution_of s cmd).ranges cmd
+
+-- the ranges of the set that an execution runs on; none for any other command
+abbrev pub set_in : List RangeSet → Command → Option (List MemRange)
+set_in sets (command.NvmRead ns lba count) = None
+set_in sets (command.NvmWrite ns lba bytes) = None
+set_in sets (command.NvmZeroes ns lba count) = None
+set_in sets (command.NvmCopy ns lba from) = None
+set_in sets (command.MemRead ns at len) = None
+set_in sets (command.MemWrite ns at bytes) = None
+set_in sets (command.MemFill ns at len value) = None
+set_in sets (command.MemCopy ns at from) = None
+set_in sets (command.SetCreate ranges) = None
+set_in sets (command.SetDelete set) = None
+set_in sets (command.Load slot size at bytes) = None
+set_in sets (command.Unload slot) = None
+set_in sets (command.Activate slot) = None
+set_in sets (command.Deactivate slot) = None
+set_in sets (command.Execute slot set p1 p2 budget) = ranges_under sets set
+set_in sets (command.Abort cid) = None
+
+-- the set, the code, the stack and the room for windows on so many pieces that an execution has
+pub record FitsSetup (x : Execution) (pieces : ℕ) (setup : Setup) : Type 0 where
+  pub set : setup.set ≡ Some x.ranges
+  pub code : IsCodeOf x.runs (option_map (λ decoded. decoded.value) setup.code)
+  pub stack : setup.stack.items ≡ replicate stack_len 0
+  pub windows : pieces ≤ vec_capacity setup.windows
