@@ -1,13 +1,12 @@
 -- A claim: what its command needs is at home, the parts move so, and its work is that of the claim.
-use Rattle.std.proofs.Common.{◌≡◌, ℕ, zero, suc, ◌+◌, ◌<◌, ◌≤◌, ◌==◌, Bool, true, false, not, ◌&&◌, ◌||◌, cond, if◌then◌else◌, List, [], ◌∷◌, ◌++◌, length, map, Option, Some, None, IsSome, IsSomeAnd, IsTrue, is_none, is_some, slice_get, refl, sym, ap, subst, ◌∙◌, arith}
+use Rattle.std.proofs.Common.{◌≡◌, ℕ, ◌+◌, ◌<◌, ◌==◌, Bool, true, false, not, ◌&&◌, ◌||◌, if◌then◌else◌, List, [], ◌∷◌, length, map, Option, Some, None, IsSome, IsSomeAnd, is_none, is_some, slice_get, refl, sym, ap, subst, ◌∙◌, arith}
 use Rattle.std.proofs.lemmas.Bool.{true≢false}
 use Rattle.std.proofs.lemmas.List.{map-append}
-use Rattle.std.specs.List.{AllByRecursion, list_any}
+use Rattle.std.specs.List.{AllByRecursion}
 use Rattle.cp_base.specs.Answer.{Answer}
 use Rattle.cp_base.specs.Configuration.{Configuration}
 use Rattle.cp_base.specs.Contents.{Contents, bytes_of}
 use Rattle.cp_base.specs.Region.{Region}
-use Rattle.cp_base.specs.Runs.{runs_of}
 use Rattle.cp_base.specs.Sharing.{same_region, same_space}
 use Rattle.cp_base.specs.declared.commands.Command.{Command}
 use Rattle.cp_base.specs.declared.region.SpaceId.{SpaceId}
@@ -19,8 +18,8 @@ use Rattle.device_model.specs.State.{State}
 use Rattle.extents.specs.Homes.{Homes, IsAtHome, is_hole, known_at}
 use Rattle.trail_model.proofs.Regions.{in-has_byte, same_space-true}
 use Rattle.trail_model.proofs.Submits.{submit-place}
-use Rattle.trail_model.specs.Footprints.{Execution, execution_of, footprint_of, writes_of}
-use Rattle.trail_model.specs.Lawful.{IsAllowedIn, IsParty, MayClaim, Trail, is_idle, world_of}
+use Rattle.trail_model.specs.Footprints.{execution_of, writes_of}
+use Rattle.trail_model.specs.Lawful.{IsAllowedIn, MayClaim, Trail, world_of}
 use Rattle.trail_model.specs.Pieces.{RegionBytes, any_has_byte, has_byte, pieces_of}
 use Rattle.trail_model.specs.World.{OpenClaim, Submission, World, claim_of, claimed_footprint, home, is_out, submit_at}
 use Rattle.trail_model.specs.declared.events.Event.{Event}
@@ -33,20 +32,18 @@ use Rattle.core_model.proofs.Reading.{asked-same}
 use Rattle.core_model.proofs.Tabling.{same-execution}
 use Rattle.core_model.specs.Asked.{Asked, asked_at, asked_by_request}
 use Rattle.core_model.specs.Moves.{ClaimMoves}
-use Rattle.core_model.specs.Parts.{KeptFootprint, Parts, tables_in}
+use Rattle.core_model.specs.Parts.{Parts, tables_in}
 use Rattle.core_model.specs.declared.places.ClaimPlaces.{ClaimPlaces}
 use Rattle.core_model.specs.Picking.{AreAtHome, carried_for, changes_kept, is_clear_of, may_pick, may_pick_asked, taken_for, touched_by}
-use Rattle.core_model.specs.Ties.{AreTied, StandFor, is_lent, is_one_of}
+use Rattle.core_model.specs.Ties.{StandFor, is_lent, is_one_of}
 use Rattle.range_claims.specs.declared.claims.Claim.{Claim}
 use Rattle.job_run.specs.Held.{IsRange}
 use Rattle.job_run.specs.Works.{IsWork, piece_regions, region_bytes}
 use Rattle.job_run.specs.declared.work.Work.{Work}
-use Rattle.device_core.specs.Claiming.{Begins, Claims, HasStore}
-use Rattle.device_core.specs.Gives.{IsWorkOf}
-use Rattle.device_core.specs.Keep.{HasRoom, Holds, as_kept_footprint, next_of, parts_of}
+use Rattle.device_core.specs.Claiming.{Begins, HasStore}
+use Rattle.device_core.specs.Keep.{Holds, as_kept_footprint, next_of, parts_of}
 use Rattle.device_core.specs.Portions.{AreCopied, AreCutAt, AreTaken, CanBeTaken, portion_ranges, written_ranges}
-use Rattle.device_core.specs.Preparing.{carried_in, taken_in, touched_in}
-use Rattle.device_core.specs.Recorded.{told_event, trail_of}
+use Rattle.device_core.specs.Recorded.{trail_of}
 use Rattle.device_core.specs.Turns.{ClaimsBy, StandWith}
 use Rattle.device_core.specs.declared.events.Event.{Event as KeptEvent}
 use Rattle.device_core.specs.declared.keep.Keep.{Keep}

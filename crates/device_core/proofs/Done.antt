@@ -1,14 +1,13 @@
 -- A command that is done at once: what its posting needs, and how the parts move.
-use Rattle.std.proofs.Common.{◌≡◌, ℕ, zero, suc, ◌+◌, ◌*◌, ◌<◌, ◌≤◌, ◌==◌, Bool, true, false, not, ◌||◌, if◌then◌else◌, List, [], ◌∷◌, ◌++◌, length, length-append, Option, Some, None, IsSome, IsSomeAnd, IfSome, IsTrue, is_some, option_and_then, option_map, slice_get, refl, sym, ap, subst, ◌∙◌, arith}
+use Rattle.std.proofs.Common.{◌≡◌, ℕ, zero, suc, ◌+◌, ◌<◌, ◌≤◌, ◌==◌, Bool, true, false, if◌then◌else◌, List, [], ◌∷◌, ◌++◌, length, length-append, Option, Some, None, IsSome, IsSomeAnd, IfSome, slice_get, refl, sym, ap, subst, ◌∙◌, arith}
 use Rattle.std.specs.List.{AllByRecursion}
 use Rattle.std.specs.Vec.{vec_capacity, vec_len}
 use Rattle.std.proofs.lemmas.Bool.{true≢false}
 use Rattle.std.proofs.lemmas.Option.{same_Some, slice_get_within}
 use Rattle.cp_base.specs.Answer.{Answer}
-use Rattle.cp_base.specs.Configuration.{Configuration, numbered}
+use Rattle.cp_base.specs.Configuration.{Configuration}
 use Rattle.cp_base.specs.Sets.{RangeSet}
 use Rattle.cp_base.specs.declared.commands.Command.{Command}
-use Rattle.cp_base.specs.declared.limits.TheConstants.{MAX_COMMANDS, MAX_HOSTS}
 use Rattle.queue_pairs.specs.Outstanding.{CidsDiffer, QueuePair, under}
 use Rattle.queue_pairs.specs.Places.{PlacesDiffer, restaged}
 use Rattle.queue_pairs.specs.declared.command.Outstanding.{Outstanding}
@@ -24,7 +23,7 @@ use Rattle.core_model.specs.Moves.{PostMoves, WithdrawMoves}
 use Rattle.core_model.specs.Parts.{Parts, tables_in, tables_of}
 use Rattle.core_model.specs.declared.places.EntryPlaces.{EntryPlaces}
 use Rattle.core_model.specs.declared.places.WaitingSubmit.{WaitingSubmit}
-use Rattle.core_model.specs.Picking.{may_pick, may_pick_asked, withdrawn_waiting}
+use Rattle.core_model.specs.Picking.{may_pick, withdrawn_waiting}
 use Rattle.core_model.specs.Ties.{StandFor}
 use Rattle.core_model.proofs.Allowing.{do-allowed, waits-asked}
 use Rattle.core_model.proofs.Doing.{do-stands}
@@ -32,7 +31,7 @@ use Rattle.core_model.proofs.Numbers.{all-submits, asked-host}
 use Rattle.core_model.proofs.Queueing.{places-differ, post-under, restaged-differ, waiting-under, withdrawn-named}
 use Rattle.trail_model.proofs.Submits.{none-some}
 use Rattle.device_core.specs.AtOnce.{IsDoneAtOnce}
-use Rattle.device_core.specs.Keep.{CanPost, HasRoom, Holds, IsQueue, KeepsRoom, commands_in, parts_of, queue_of}
+use Rattle.device_core.specs.Keep.{CanPost, HasRoom, Holds, IsQueue, commands_in, parts_of, queue_of}
 use Rattle.device_core.specs.Recorded.{trail_of}
 use Rattle.device_core.specs.declared.events.Event.{Event as KeptEvent}
 use Rattle.device_core.specs.declared.keep.Keep.{Keep}

@@ -1,18 +1,18 @@
 -- Bytes that are fetched: what is only read is copied, and what may be written is taken out, or put back.
-use Rattle.std.proofs.Common.{◌≡◌, ℕ, zero, suc, ◌+◌, ◌-◌, ◌<◌, ◌≤◌, ◌==◌, Bool, true, false, not, ◌&&◌, ◌||◌, cond, if◌then◌else◌, List, [], ◌∷◌, ◌++◌, length, map, take, drop, get_or, Option, Some, None, IsSome, Result, Ok, Err, OnOk, slice_get, slice_set, refl, sym, ap, subst, ◌∙◌, arith, inl, inr}
+use Rattle.std.proofs.Common.{◌≡◌, ℕ, zero, suc, ◌+◌, ◌-◌, ◌<◌, ◌==◌, Bool, true, false, not, ◌&&◌, ◌||◌, if◌then◌else◌, List, [], ◌∷◌, ◌++◌, length, take, drop, get_or, Option, None, IsSome, Result, Ok, Err, OnOk, slice_set, refl, sym, ap, subst, ◌∙◌, arith}
 use Rattle.std.proofs.Math.Seq.{drop-cons}
 use Rattle.std.proofs.lemmas.Bool.{true≢false}
-use Rattle.std.specs.List.{AllByRecursion, list_any}
+use Rattle.std.specs.List.{AllByRecursion}
 use Rattle.cp_base.proofs.Sharing.{shares_byte-from_common, shares_byte-from_parts}
 use Rattle.cp_base.specs.Buffer.{Buffer}
 use Rattle.cp_base.specs.Region.{Region}
-use Rattle.cp_base.specs.Sharing.{IsIn, any_overlap, meets_any, same_region, same_space, shares_byte}
+use Rattle.cp_base.specs.Sharing.{IsIn, meets_any, same_region, same_space, shares_byte}
 use Rattle.cp_base.specs.declared.region.SpaceId.{SpaceId}
 use Rattle.cp_base.specs.declared.replies.Piece.{Piece}
 use Rattle.trail_model.proofs.Regions.{has_byte-in, in-has_byte, same_space-true}
 use Rattle.trail_model.specs.Pieces.{any_has_byte, has_byte}
 use Rattle.core_model.specs.Ties.{is_one_of}
-use Rattle.extents.specs.Homes.{AreBytesAt, Homes, IsAtHome, IsBroughtBack, IsTakenAway, is_hole, known_at}
+use Rattle.extents.specs.Homes.{AreBytesAt, Homes, IsBroughtBack, IsTakenAway, is_hole, known_at}
 use Rattle.job_run.specs.Held.{IsRange}
 use Rattle.device_core.specs.Portions.{AreCopied, AreCutAt, AreFilled, AreTaken, CanBeTaken, IsCopied, IsCutAt, IsFilledIf, IsReadIf, filled_at, portion_ranges, written_ranges}
 use Rattle.device_core.specs.declared.portions.Portion.{Portion}

@@ -1,7 +1,7 @@
 -- A claim that is over: its pieces come home one after the other, and the parts move as at its finish.
-use Rattle.std.proofs.Common.{◌≡◌, ℕ, zero, suc, ◌+◌, ◌-◌, ◌*◌, ◌<◌, ◌≤◌, ◌==◌, nat_lt, Bool, true, false, not, ◌&&◌, ◌||◌, cond, List, [], ◌∷◌, ◌++◌, filter, find, map, length, Option, Some, None, option_map, slice_get, slice_index, refl, sym, ap, subst, ◌∙◌, inl, inr, arith, if◌then◌else◌}
+use Rattle.std.proofs.Common.{◌≡◌, ℕ, zero, suc, ◌+◌, ◌-◌, ◌<◌, ◌≤◌, ◌==◌, Bool, true, false, not, ◌&&◌, ◌||◌, cond, List, [], ◌∷◌, ◌++◌, filter, find, map, length, Option, Some, None, option_map, slice_get, slice_index, refl, sym, ap, subst, ◌∙◌, inl, arith, if◌then◌else◌}
 use Rattle.std.specs.Prelude.{IsSomeAnd}
-use Rattle.std.specs.List.{AllByRecursion, list_any}
+use Rattle.std.specs.List.{AllByRecursion}
 use Rattle.std.specs.Vec.{vec_capacity, vec_len}
 use Rattle.std.proofs.lemmas.Bool.{true≢false}
 use Rattle.std.proofs.lemmas.Option.{slice_get-get_or}
@@ -24,13 +24,13 @@ use Rattle.range_claims.specs.declared.claims.Claim.{Claim}
 use Rattle.trail_model.specs.Lawful.{IsAllowedIn, MayFinish, Trail, world_of}
 use Rattle.trail_model.specs.Linked.{ClaimLinked}
 use Rattle.trail_model.specs.Pieces.{RegionBytes, any_has_byte, carried, has_byte}
-use Rattle.trail_model.specs.World.{OpenClaim, World, claim_at, claimed_footprint, effect_of_claim}
+use Rattle.trail_model.specs.World.{OpenClaim, claim_at, claimed_footprint, effect_of_claim}
 use Rattle.trail_model.specs.declared.events.Event.TheVariants as event
 use Rattle.trail_model.proofs.Moving.{linked-world}
 use Rattle.trail_model.proofs.Regions.{has_byte-in, in-has_byte, out-has_byte, unmet}
 use Rattle.trail_model.proofs.Sound.{some-and}
 use Rattle.trail_model.proofs.Submits.{claim-place, found-each, none-some, some-same}
-use Rattle.core_model.specs.Asked.{Asked, asked_at, asked_by_request}
+use Rattle.core_model.specs.Asked.{asked_at, asked_by_request}
 use Rattle.core_model.specs.Moves.{FinishMoves, filled_by, filled_by_all, without_kept}
 use Rattle.core_model.specs.Parts.{KeptFootprint, Parts}
 use Rattle.core_model.specs.declared.places.ClaimPlaces.{ClaimPlaces}
@@ -42,7 +42,7 @@ use Rattle.core_model.proofs.Numbers.{all-submits, asked-host}
 use Rattle.core_model.proofs.Queueing.{claimed-under, places-differ}
 use Rattle.core_model.proofs.Reading.{asked-found}
 use Rattle.core_model.proofs.Steps.{find-map}
-use Rattle.job_run.specs.Works.{pieces_after, region_bytes}
+use Rattle.job_run.specs.Works.{region_bytes}
 use Rattle.job_run.specs.declared.work.Worked.{Worked}
 use Rattle.job_run.proofs.Holding.{same_region-true}
 use Rattle.device_core.specs.Gives.{HasWorked}

@@ -1,9 +1,9 @@
 -- What a party is given that turned to a command.
-use Rattle.std.proofs.Common.{◌≡◌, ℕ, ◌≤◌, List, [], ◌∷◌, ◌++◌, length, Option, Some, None, IsSomeAnd, slice_get, refl, sym, ap, subst, ◌∙◌}
+use Rattle.std.proofs.Common.{◌≡◌, ℕ, List, [], ◌∷◌, ◌++◌, length, IsSomeAnd, slice_get, refl, sym, ap, subst, ◌∙◌}
 use Rattle.std.proofs.lemmas.List.{length-map}
 use Rattle.cp_base.specs.Configuration.{Configuration}
 use Rattle.trail_model.specs.Lawful.{world_of}
-use Rattle.trail_model.specs.World.{Submission, claim_of, pickable_among, withdrawn_place}
+use Rattle.trail_model.specs.World.{Submission, pickable_among, withdrawn_place}
 use Rattle.trail_model.specs.declared.events.Event.{Event}
 use Rattle.trail_model.specs.declared.events.Event.TheVariants as event
 use Rattle.job_run.specs.declared.work.Work.{Work}

@@ -1,6 +1,5 @@
 -- What is prepared for a claim.
-use Rattle.std.proofs.Common.{◌≡◌, ℕ, zero, suc, ◌*◌, ◌≤◌, ◌==◌, nat_lt, get_or, Bool, true, false, not, ◌&&◌, ◌||◌, cond, if◌then◌else◌, List, [], ◌∷◌, ◌++◌, find, length, map, Option, Some, None, Result, Ok, Err, IfOk, IsSome, is_none, option_map, replicate, unwrap_or, vec_capacity, refl, sym, ap, subst, ◌∙◌, arith}
-use Rattle.std.proofs.lemmas.Bool.{true≢false}
+use Rattle.std.proofs.Common.{◌≡◌, ℕ, ◌*◌, ◌≤◌, ◌==◌, nat_lt, get_or, Bool, true, false, ◌||◌, cond, if◌then◌else◌, List, [], ◌∷◌, ◌++◌, find, length, map, Option, Some, None, Result, Ok, Err, IfOk, IsSome, is_none, option_map, replicate, unwrap_or, vec_capacity, refl, sym, ap, subst, ◌∙◌, arith}
 use Rattle.std.specs.List.{AllByRecursion, list_any}
 use Rattle.std.specs.Option.{option_or}
 use Rattle.cp_base.specs.Answer.{Answer, only_status}
@@ -15,8 +14,7 @@ use Rattle.cp_base.specs.declared.lists.MemRange.{MemRange}
 use Rattle.cp_base.specs.declared.region.SpaceId.TheVariants as space
 use Rattle.cp_base.specs.declared.replies.Status.{Status}
 use Rattle.cp_base.specs.declared.replies.Status.TheVariants as status
-use Rattle.device_model.specs.Builtin.{Builtin, builtin_at}
-use Rattle.device_model.specs.Checks.{checks_of, deactivate_checks, execute_checks, refusal_of, refusal_of_program, runnable_checks}
+use Rattle.device_model.specs.Checks.{execute_checks, refusal_of, runnable_checks}
 use Rattle.bpf_isa.specs.declared.end.End.{End}
 use Rattle.bpf_isa.specs.declared.end.End.TheVariants as end
 use Rattle.device_model.specs.Execution.{executable_in, told_of}

@@ -1,10 +1,9 @@
 -- Commands under their identifiers, one of which has another stage.
-use Rattle.std.proofs.Common.{◌≡◌, ℕ, Bool, true, false, cond, eqb, List, [], ◌∷◌, Option, Some, None, refl, sym, ap, ◌∙◌}
+use Rattle.std.proofs.Common.{◌≡◌, ℕ, Bool, true, false, cond, eqb, List, [], ◌∷◌, Some, refl, ap}
 use Rattle.std.proofs.lemmas.Option.{same_Some}
 use Rattle.queue_pairs.specs.Outstanding.{under, with_stage}
 use Rattle.queue_pairs.specs.declared.command.Outstanding.{Outstanding}
 use Rattle.queue_pairs.specs.declared.command.Stage.{Stage}
-use Rattle.core_model.proofs.Queueing.{restaged-differ, restaged-twice}
 
 -- the command under an identifier, whose stage is another one
 pub under_restaged : (commands : List Outstanding) (cid : ℕ) (stage : Stage) (x : Outstanding) → under commands cid ≡ Some x

@@ -1,6 +1,5 @@
 -- What the core shows of itself: its bytes and its entries.
-use Rattle.std.proofs.Common.{◌≡◌, ℕ, zero, suc, ◌+◌, ◌-◌, ◌<◌, ◌≤◌, Bool, true, false, List, [], ◌∷◌, length, slice_get, slice_index, Option, Some, None, IsSome, option_map, refl, sym, ap, subst, ◌∙◌, inl, inr, ◌⊎◌, ⊎_elim, arith, if◌then◌else◌}
-use Rattle.std.specs.Prelude.{IsSomeAnd}
+use Rattle.std.proofs.Common.{◌≡◌, ℕ, zero, suc, ◌+◌, ◌-◌, ◌<◌, ◌≤◌, Bool, true, false, List, [], ◌∷◌, length, slice_get, slice_index, Option, Some, None, IsSome, option_map, refl, sym, ap, subst, ◌∙◌, ⊎_elim, arith, if◌then◌else◌}
 use Rattle.std.proofs.lemmas.Bool.{cases_lt, true≢false}
 use Rattle.std.proofs.lemmas.Option.{slice_get-get_or, slice_get_past}
 use Rattle.cp_base.specs.Configuration.{Configuration}
@@ -9,7 +8,7 @@ use Rattle.cp_base.specs.Pieces.{piece}
 use Rattle.cp_base.specs.Region.{Region}
 use Rattle.cp_base.specs.Sharing.{IsIn}
 use Rattle.cp_base.specs.declared.region.SpaceId.{SpaceId}
-use Rattle.extents.specs.Homes.{AreBytesAt, IsAtHome, known_at}
+use Rattle.extents.specs.Homes.{AreBytesAt, IsAtHome}
 use Rattle.trail_model.specs.Lawful.{history_of, world_of}
 use Rattle.trail_model.specs.Pieces.{all_bytes}
 use Rattle.trail_model.specs.World.{Completion, World, home, is_out}
@@ -18,7 +17,6 @@ use Rattle.trail_model.proofs.Putting.{length-cut}
 use Rattle.trail_model.proofs.Sound.{some-and}
 use Rattle.core_model.specs.Parts.{Parts}
 use Rattle.core_model.specs.declared.places.EntryPlaces.{EntryPlaces}
-use Rattle.core_model.specs.Picking.{AreAtHome}
 use Rattle.core_model.specs.Telling.{TellsEntry}
 use Rattle.core_model.proofs.Entries.{entries-number, entry-told}
 use Rattle.core_model.proofs.Fetching.{same-bytes}

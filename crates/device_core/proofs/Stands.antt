@@ -1,8 +1,8 @@
 -- What is kept goes on to stand for the trail.
-use Rattle.std.proofs.Common.{◌≡◌, ℕ, ◌+◌, ◌*◌, ◌<◌, ◌≤◌, List, [], ◌∷◌, ◌++◌, length, length-append, Option, Some, None, Result, Ok, false, refl, sym, ap, subst, ◌∙◌, arith}
+use Rattle.std.proofs.Common.{◌≡◌, ℕ, ◌+◌, ◌*◌, ◌<◌, ◌≤◌, List, [], ◌∷◌, ◌++◌, length, length-append, Option, Some, None, Result, Ok, false, refl, sym, subst, ◌∙◌, arith}
 use Rattle.std.proofs.lemmas.Bool.{le-leb, lt-leb}
 use Rattle.std.proofs.lemmas.List.{length-map, map-append}
-use Rattle.std.specs.Vec.{vec_capacity, vec_len}
+use Rattle.std.specs.Vec.{vec_capacity}
 use Rattle.cp_base.specs.Configuration.{Configuration}
 use Rattle.cp_base.specs.declared.commands.Command.{Command}
 use Rattle.cp_base.specs.declared.limits.TheConstants.{MAX_COMMANDS, MAX_HOSTS}
@@ -24,7 +24,7 @@ use Rattle.core_model.proofs.Allowing.{submit-allowed, submit-cause, take-allowe
 use Rattle.core_model.proofs.Numbers.{all-submits, ordinals-below}
 use Rattle.core_model.proofs.Queueing.{places-differ}
 use Rattle.core_model.proofs.Quiet.{rest-stands, submit-stands, take-stands}
-use Rattle.device_core.specs.Keep.{HasRoom, Holds, KeepsRoom, next_of, pair_of, parts_of, queue_of}
+use Rattle.device_core.specs.Keep.{Holds, KeepsRoom, next_of, pair_of, parts_of, queue_of}
 use Rattle.device_core.specs.Recorded.{told_event, trail_of}
 use Rattle.device_core.specs.declared.events.Event.{Event as KeptEvent}
 use Rattle.device_core.specs.declared.keep.Keep.{Keep}

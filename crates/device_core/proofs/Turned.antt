@@ -1,5 +1,5 @@
 -- The commands that may be picked, in the world of the trail.
-use Rattle.std.proofs.Common.{◌≡◌, ◌∙◌, ℕ, zero, suc, List, [], ◌∷◌, cond, filter, map, length, Option, Some, slice_get, refl, sym, ap, subst, ◌≤◌, true, false, Bool}
+use Rattle.std.proofs.Common.{◌≡◌, ◌∙◌, ℕ, zero, suc, List, [], ◌∷◌, cond, filter, map, length, Some, slice_get, refl, sym, ap, subst, true, false, Bool}
 use Rattle.std.specs.List.{AllByRecursion}
 use Rattle.std.proofs.lemmas.List.{length-map}
 use Rattle.cp_base.specs.Configuration.{Configuration}
@@ -10,7 +10,7 @@ use Rattle.trail_model.proofs.Linked.{self-found}
 use Rattle.trail_model.proofs.Moving.{linked-world}
 use Rattle.trail_model.proofs.NewSets.{each-filter}
 use Rattle.trail_model.proofs.Submits.{none-some, some-same}
-use Rattle.core_model.specs.Asked.{Asked, asked_at, asked_by_request}
+use Rattle.core_model.specs.Asked.{asked_at, asked_by_request}
 use Rattle.core_model.specs.declared.places.WaitingSubmit.{WaitingSubmit}
 use Rattle.core_model.specs.Picking.{may_pick_asked, pickable_waiting, withdrawn_waiting}
 use Rattle.core_model.specs.Ties.{as_waiting}

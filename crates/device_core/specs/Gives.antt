@@ -1,5 +1,5 @@
 -- What is claimed, what is left of it, and what is told of a command that is over. This project's own.
-use Rattle.std.specs.Prelude.{◌≡◌, ◌≤◌, ℕ, IsSomeAnd, IsTrue, true, List, [], length, slice_get}
+use Rattle.std.specs.Prelude.{◌≡◌, ◌≤◌, ℕ, IsSomeAnd, IsTrue, true, [], length, slice_get}
 use Rattle.cp_base.specs.Answer.{Answer, answer_of}
 use Rattle.cp_base.specs.Configuration.{Configuration}
 use Rattle.cp_base.specs.declared.commands.Command.{Command}

@@ -1,5 +1,5 @@
 -- What comes home at a finish: the pieces that the claim may write. This project's own.
-use Rattle.std.specs.Prelude.{◌≡◌, ℕ, ◌<◌, nat_lt, Bool, true, false, not, ◌&&◌, IsSomeAnd, List, [], Option, Some, None, filter, length, map}
+use Rattle.std.specs.Prelude.{◌≡◌, ℕ, ◌<◌, nat_lt, Bool, true, false, not, ◌&&◌, List, [], Option, Some, None, filter, length, map}
 use Rattle.std.specs.List.{AllByRecursion}
 use Rattle.cp_base.specs.Configuration.{Configuration}
 use Rattle.cp_base.specs.Region.{Region}

@@ -1,5 +1,5 @@
 -- What is prepared for a claim. This project's own.
-use Rattle.std.specs.Prelude.{◌≡◌, ◌≤◌, ℕ, List, [], Option, None, Some, option_map, replicate, vec_capacity}
+use Rattle.std.specs.Prelude.{◌≡◌, ◌≤◌, ℕ, List, Option, None, Some, option_map, replicate, vec_capacity}
 use Rattle.cp_base.specs.Configuration.{Configuration}
 use Rattle.cp_base.specs.Region.{Region}
 use Rattle.cp_base.specs.Sets.{RangeSet, ranges_under}

@@ -1,4 +1,4 @@
-use Rattle.std.proofs.Common.{◌≡◌, ◌∙◌, ◌≤◌, ◌*◌, ℕ, ap, refl, subst, sym}
+use Rattle.std.proofs.Common.{◌∙◌, ◌≤◌, ◌*◌, ℕ, ap, refl, subst, sym}
 use Rattle.cp_base.specs.declared.limits.TheConstants.{MAX_HOSTS}
 use Rattle.device_core.proofs.claiming.begin.Goals as goal
 

@@ -1,5 +1,5 @@
 -- What an Abort withdraws is posted.
-use Rattle.std.proofs.Common.{◌≡◌, ◌∙◌, ◌+◌, ℕ, IfSome, IsSomeAnd, Option, ap, option_map, subst, sym}
+use Rattle.std.proofs.Common.{◌∙◌, ◌+◌, ℕ, IfSome, IsSomeAnd, Option, ap, option_map, subst, sym}
 use Rattle.core_model.specs.Asked.{Asked, asked_at}
 use Rattle.core_model.specs.Moves.{PostMoves, WithdrawMoves}
 use Rattle.core_model.specs.Parts.{tables_in}

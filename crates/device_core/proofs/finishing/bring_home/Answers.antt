@@ -12,7 +12,7 @@ use Rattle.core_model.specs.Asked.{Asked, asked_at, asked_by_request}
 use Rattle.core_model.specs.Moves.{FinishMoves}
 use Rattle.core_model.specs.Ties.{as_places}
 use Rattle.core_model.specs.declared.places.ClaimPlaces.{ClaimPlaces}
-use Rattle.device_core.specs.Homecoming.{BringsHome, CanComeHome, homebound, writes_under}
+use Rattle.device_core.specs.Homecoming.{CanComeHome, homebound, writes_under}
 use Rattle.device_core.specs.Keep.{parts_of, queue_of}
 use Rattle.device_core.specs.Reading.{as_asked}
 use Rattle.device_core.specs.Recorded.{trail_of}

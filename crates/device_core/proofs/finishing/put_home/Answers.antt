@@ -1,6 +1,6 @@
 -- The pieces come home one after the other.
-use Rattle.std.proofs.Common.{◌≡◌, ◌∙◌, ◌+◌, ℕ, Bool, List, [], ◌∷◌, true, false, ap, arith, length, refl, rules, subst, sym}
-use Rattle.std.specs.Vec.Iter.{into_iter_items, into_iter_len}
+use Rattle.std.proofs.Common.{◌≡◌, ◌∙◌, List, [], ◌∷◌, true, false, ap, arith, length, refl, rules, subst, sym}
+use Rattle.std.specs.Vec.Iter.{into_iter_items}
 use Rattle.cp_base.specs.Region.{Region}
 use Rattle.cp_base.specs.declared.replies.Piece.{Piece}
 use Rattle.trail_model.specs.Pieces.{any_has_byte}

@@ -1,9 +1,7 @@
-use Rattle.std.proofs.Common.{rules, ◌≡◌, ◌∙◌, List, map, true, false, ap}
-use Rattle.cp_base.specs.Region.{Region}
+use Rattle.std.proofs.Common.{rules, ◌≡◌, ◌∙◌, true, false, ap}
 use Rattle.cp_base.specs.Runs.{runs_of}
-use Rattle.trail_model.specs.Footprints.{carried_regions, is_execution, reads_of, writes_of}
-use Rattle.device_core.specs.Portions.{portion_ranges, run_portions, set_portion, written_ranges}
-use Rattle.device_core.specs.declared.portions.Portion.{Portion}
+use Rattle.trail_model.specs.Footprints.{is_execution, reads_of, writes_of}
+use Rattle.device_core.specs.Portions.{portion_ranges, run_portions, written_ranges}
 use Rattle.device_core.proofs.Carrying.{if-ok, runs-carried, runs-written, set-carried, set-taken}
 use Rattle.device_core.proofs.portions.portions_of.Goals as goal
 

@@ -1,4 +1,4 @@
-use Rattle.std.proofs.Common.{◌≡◌, [], length, replicate}
+use Rattle.std.proofs.Common.{◌≡◌, [], replicate}
 use Rattle.device_core.specs.Keep.{pair_of}
 use Rattle.device_core.proofs.queues.empty_queues.Given as goal
 

@@ -1,5 +1,5 @@
 -- The command is picked, and then posted.
-use Rattle.std.proofs.Common.{◌≡◌, ◌∙◌, List, Option, Some, ap, subst, sym}
+use Rattle.std.proofs.Common.{◌≡◌, ◌∙◌, List, Some, ap, subst, sym}
 use Rattle.queue_pairs.specs.Outstanding.{under}
 use Rattle.queue_pairs.specs.Places.{PlacesDiffer, restaged}
 use Rattle.queue_pairs.specs.declared.command.Outstanding.{Outstanding}

@@ -1,5 +1,5 @@
 -- The bytes that are appended are those of the state.
-use Rattle.std.proofs.Common.{◌≡◌, IsSome, List, ℕ, drop, length, subst, sym}
+use Rattle.std.proofs.Common.{IsSome, List, ℕ, subst, sym}
 use Rattle.std.specs.Vec.{vec_capacity}
 use Rattle.cp_base.specs.Contents.{bytes_in}
 use Rattle.cp_base.specs.Growth.{Appended}

@@ -1,5 +1,5 @@
 -- A party turns to a command, and its event is added to the trail.
-use Rattle.std.proofs.Common.{◌≡◌, List, arith, rules, subst, sym}
+use Rattle.std.proofs.Common.{List, arith, rules, subst, sym}
 use Rattle.std.specs.Vec.{vec_capacity}
 use Rattle.device_core.specs.Gives.{Gives}
 use Rattle.device_core.specs.Keep.{Holds}

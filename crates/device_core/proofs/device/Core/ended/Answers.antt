@@ -1,5 +1,4 @@
-use Rattle.std.proofs.Common.{◌≡◌, ◌∙◌, length, arith, rules, subst}
-use Rattle.std.specs.Vec.{vec_capacity}
+use Rattle.std.proofs.Common.{◌≡◌, length, arith, rules, subst}
 use Rattle.trail_model.specs.Lawful.{history_of}
 use Rattle.core_model.proofs.Entries.{entries-number}
 use Rattle.core_model.proofs.Numbers.{all-submits}

@@ -1,5 +1,5 @@
 -- A finish is added to the trail.
-use Rattle.std.proofs.Common.{◌≡◌, ◌∙◌, ◌+◌, ◌++◌, ◌∷◌, [], List, arith, length, subst, sym}
+use Rattle.std.proofs.Common.{◌+◌, ◌++◌, ◌∷◌, [], List, arith, length, subst, sym}
 use Rattle.std.specs.Prelude.{IsSomeAnd}
 use Rattle.std.specs.Vec.{vec_capacity}
 use Rattle.cp_base.specs.Answer.{Answer, answer_of}

@@ -1,5 +1,5 @@
 -- A take is added to the trail.
-use Rattle.std.proofs.Common.{◌≡◌, ◌∙◌, Err, Ok, arith, subst, sym}
+use Rattle.std.proofs.Common.{◌≡◌, Err, Ok, arith, subst, sym}
 use Rattle.std.proofs.lemmas.Result.{err_from_is_err_and}
 use Rattle.std.specs.Vec.{vec_capacity}
 use Rattle.trail_model.specs.Lawful.{world_of}

@@ -1,10 +1,8 @@
 -- The claim ends: the parts move as at its finish.
-use Rattle.std.proofs.Common.{◌≡◌, ◌∙◌, ℕ, ◌*◌, ◌≤◌, List, Option, ap, map, refl, subst, sym}
-use Rattle.cp_base.specs.Region.{Region}
+use Rattle.std.proofs.Common.{◌∙◌, ℕ, ◌*◌, ◌≤◌, Option, ap, map, refl, subst, sym}
 use Rattle.cp_base.specs.declared.limits.TheConstants.{MAX_HOSTS}
 use Rattle.cp_base.specs.declared.spans.Footprint.{Footprint}
 use Rattle.range_claims.specs.Kept.{KeptClaims, footprint_under}
-use Rattle.extents.specs.Homes.{Homes}
 use Rattle.device_core.specs.Homecoming.{CameHome, CanComeHome, homebound, writes_in}
 use Rattle.device_core.specs.Keep.{as_kept_footprint}
 use Rattle.device_core.proofs.Finished.{kept-same, stored}

@@ -1,4 +1,4 @@
-use Rattle.std.proofs.Common.{◌≡◌, ◌≤◌, ◌∙◌, ℕ, length, length-set, subst, sym}
+use Rattle.std.proofs.Common.{◌≤◌, ℕ, length-set, subst, sym}
 use Rattle.device_core.proofs.keep.Keep.submit.Goals as goal
 
 pub returns-clause-room : goal.returns-clause-room
