@@ -46,7 +46,7 @@ every-among P [] x all found = absurd found
 every-among P (y ∷ ys) x all (inl is) = subst P (sym is) all.0
 every-among P (y ∷ ys) x all (inr found) = every-among P ys x all.1 found
 
-unique : (xs : List Sent) (a b : Sent) → Pairwise Precedes xs → Among xs a → Among xs b → a.host ≡ b.host → a.ordinal ≡ b.ordinal → a ≡ b
+pub unique : (xs : List Sent) (a b : Sent) → Pairwise Precedes xs → Among xs a → Among xs b → a.host ≡ b.host → a.ordinal ≡ b.ordinal → a ≡ b
 unique [] a b order p q h o = absurd p
 unique (y ∷ ys) a b order (inl p) (inl q) h o = p ∙ sym q
 unique (y ∷ ys) a b order (inl p) (inr q) h o =
@@ -193,7 +193,7 @@ same-answer a b s r d =
 tail-same : (a b : ℕ) (x y : List ℕ) → a ∷ x ≡ b ∷ y → x ≡ y
 tail-same a b x y e = cc
 
-line-tells : (k : ℕ) (e f : Entry) (x y : List ℕ) → IsSizedEntry e → IsSizedEntry f → entry_text k e ++ x ≡ entry_text k f ++ y → Tells e f x y
+pub line-tells : (k : ℕ) (e f : Entry) (x y : List ℕ) → IsSizedEntry e → IsSizedEntry f → entry_text k e ++ x ≡ entry_text k f ++ y → Tells e f x y
 line-tells k e f x y p q same =
     let E : List ℕ = told e.sent.host e.sent.ordinal e.sent.cid (word_of e.sent.command) e.answer.status e.answer.result e.answer.bytes x in
     let F : List ℕ = told f.sent.host f.sent.ordinal f.sent.cid (word_of f.sent.command) f.answer.status f.answer.result f.answer.bytes y in
@@ -217,7 +217,7 @@ line-tells k e f x y p q same =
 
 -- ---- whole histories
 
-same-entry : (e f : Entry) → e.sent ≡ f.sent → e.answer ≡ f.answer → e ≡ f
+pub same-entry : (e f : Entry) → e.sent ≡ f.sent → e.answer ≡ f.answer → e ≡ f
 same-entry e f s a =
     let by_sent : Sent → Entry = λ x. record { sent = x; answer = e.answer } in
     let by_answer : Answer → Entry = λ x. record { sent = f.sent; answer = x } in

@@ -177,7 +177,7 @@ next-phase phase all order = record {
   pairs = order.pairs;
 }
 
-phases-in-order : (phase : ℕ) (earlier : List Sent) (phases : List Phase) → InOrder phase earlier
+pub phases-in-order : (phase : ℕ) (earlier : List Sent) (phases : List Phase) → InOrder phase earlier
     → (last : ℕ) × InOrder last (sends_of_phases phase earlier phases)
 phases-in-order phase earlier [] order = (phase, order)
 phases-in-order phase earlier (p ∷ phases) order =
@@ -202,7 +202,7 @@ not-above n taken t all found =
     omega (arith, here, found.2)
 
 -- of two commands in order the later is not taken before the earlier is sent
-not-taken-before : (a b : Sent) → Precedes a b → TakenBefore b a → ⊥
+pub not-taken-before : (a b : Sent) → Precedes a b → TakenBefore b a → ⊥
 not-taken-before a b order (inl phases) = omega (arith, order.phases, phases)
 not-taken-before a b order (inr (same, found)) =
     omega (arith, order.ordinals (sym same), not-above a.ordinal a.taken b.ordinal order.taken found)

@@ -45,7 +45,7 @@ impl SeqDevice {
     }
 
     // The checks of an execution.
-    fn check_execute(&self, slot: u32, set: u32, budget: u64) -> Result<(), Status>
+    pub(crate) fn check_execute(&self, slot: u32, set: u32, budget: u64) -> Result<(), Status>
         ensures checked { MatchResult result
             (λ _. first_failing (execute_checks self.now.config self.now.state slot set budget) ≡ None)
             (λ status. first_failing (execute_checks self.now.config self.now.state slot set budget) ≡ Some status) }

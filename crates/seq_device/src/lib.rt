@@ -12,6 +12,7 @@ mod memory;
 mod replies;
 mod sets;
 mod slots;
+mod taking;
 #[cfg(test)]
 mod tests;
 

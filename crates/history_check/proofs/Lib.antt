@@ -1,0 +1,13 @@
+pub mod BadLines
+pub mod Choosing
+pub mod Continuing
+pub mod Disjoint
+pub mod Ends
+pub mod Fronts
+pub mod Lists
+pub mod Naming
+pub mod NextBad
+pub mod OneBad
+pub mod OneMore
+pub mod Pairing
+pub mod TextLines
