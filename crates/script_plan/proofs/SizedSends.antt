@@ -171,14 +171,14 @@ all_fit : (script : Script) → AreSized (lines_of script) → KeepsOrderAndLimi
 all_fit script sized kept = fit_lines start (lines_of script) kept (every-of-All IsSizedLine (lines_of script) sized)
 
 -- what a script sends
-sends_sized : (script : Script) → AreSized (lines_of script) → KeepsOrderAndLimits script → AllByRecursion IsSizedSend (sends_of script.phases)
+pub sends_sized : (script : Script) → AreSized (lines_of script) → KeepsOrderAndLimits script → AllByRecursion IsSizedSend (sends_of script.phases)
 sends_sized script sized kept =
     let all = all_fit script sized kept in
     let most = front (configuration_lines script.config ++ phase_lines script.phases) (show_lines script.shows) all in
     phases_sized 1 [] script.phases tt (back (configuration_lines script.config) (phase_lines script.phases) most)
 
 -- the budget of a script's device
-budget_few : (script : Script) → AreSized (lines_of script) → KeepsOrderAndLimits script → script.config.budget ≤ MAX_BUDGET
+pub budget_few : (script : Script) → AreSized (lines_of script) → KeepsOrderAndLimits script → script.config.budget ≤ MAX_BUDGET
 budget_few script sized kept =
     let header = (all_fit script sized kept).0.fits in
     let one = both_true (is_within 0 18446744073709551615 script.config.block) _ header in

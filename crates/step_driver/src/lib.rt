@@ -1,0 +1,11 @@
+//! The driver of the schedule: it carries out a plan on one device, turn by turn, as a number selects.
+#![tactic(auto)]
+
+mod part;
+mod running;
+mod steps;
+#[cfg(test)]
+mod tests;
+mod turns;
+
+pub use steps::run_steps;
