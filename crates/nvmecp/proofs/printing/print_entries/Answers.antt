@@ -14,7 +14,7 @@ loop-k-preserved g c =
     let before = c.loop-k.invariant in
     record {
       written = more (held c.args.sink.now) (held c.loop-k.sink) (held c.print_entry.new.sink) lines k _
-          (omega (arith, c.loop-k-test.true, c.ended.ensures, count_lines history)) line before.written c.in_ok-print_entry.ensures.all;
+          (omega (arith, c.loop-k-test.true, c.ended-k-end.ensures, count_lines history)) line before.written c.in_ok-print_entry.ensures.all;
       room = c.print_entry.ensures.room;
       later = omega (arith, before.later, c.print_entry.ensures.later);
     }
@@ -27,7 +27,7 @@ pub returns-clause-all : goal.returns-clause-all
 returns-clause-all g c =
     let history = (world_in c.args.core.now).history in
     all (g.K.Sink.held c.args.sink.now) (g.K.Sink.held c.loop-k.sink) (ended_lines 1 history) c.loop-k.k
-    (omega (arith, c.loop-k-test.false, c.ended.ensures, count_lines history)) c.loop-k.invariant.written
+    (omega (arith, c.loop-k-test.false, c.ended-k-end.ensures, count_lines history)) c.loop-k.invariant.written
 
 pub returns-in_err-print_entry-clause-front : goal.returns-in_err-print_entry-clause-front
 returns-in_err-print_entry-clause-front g c =
@@ -38,4 +38,4 @@ returns-in_err-print_entry-clause-front g c =
     let line = the_line history k (ended_as_shown c.in-Some.entry) c.in-Some.ensures in
     told c.from_residual.result
     (cut (held c.args.sink.now) (held c.loop-k.sink) (held c.print_entry.new.sink) lines k _
-    (omega (arith, c.loop-k-test.true, c.ended.ensures, count_lines history)) line c.loop-k.invariant.written c.in_err-print_entry.ensures.front)
+    (omega (arith, c.loop-k-test.true, c.ended-k-end.ensures, count_lines history)) line c.loop-k.invariant.written c.in_err-print_entry.ensures.front)

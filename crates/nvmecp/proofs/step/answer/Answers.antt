@@ -33,4 +33,4 @@ returns-in-Err-Fault-plan-clause-ends g c =
 
 pub carry_out-requires-clause-limited : goal.carry_out-requires-clause-limited
 carry_out-requires-clause-limited g c =
-    few_commands c.in-Ok.script c.in-Ok-plan.plan.phases c.in-Ok-plan.plan.commands c.in-Ok.ensures.kept c.in-Ok-plan.ensures.commands c.in-Ok-plan.ensures.sends
+    few_commands c.in-Ok.script c.in-Ok-plan.plan.phases c.in-Ok-plan.plan.commands c.in-Ok.ensures.order_and_limits c.in-Ok-plan.ensures.commands c.in-Ok-plan.ensures.sends
