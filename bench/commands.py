@@ -1,13 +1,14 @@
 #!/usr/bin/env python3
-"""Time and memory of `step 1 0` on scripts of many small commands, of long reads and of shows, over doubled
-sizes.
+"""Time and memory of `step` with 1 and 16 workers on scripts of many small commands, of deep queues, of long reads and of
+shows, over doubled sizes.
 
     python3 bench/commands.py
 """
 
 from measure import best_of, build, doubled
 
-WORDS = ["step", "1", "0"]
+ONE = ["step", "1", "0"]
+SIXTEEN = ["step", "16", "0"]
 
 
 def commands(count):
@@ -20,6 +21,18 @@ def commands(count):
         else:
             lines.append(f"send 1 memread ns=1 at={at} len=16")
         lines.append("take 1")
+    return ("\n".join(lines) + "\n").encode()
+
+
+def deep_queues(count):
+    """Small writes of 16 hosts, each of which has 256 outstanding before it takes their replies."""
+    lines = ["nvmecp 1 block=512 depth=256 budget=1000", "mem 1 bytes=65536", "phase"]
+    for host in range(1, 17):
+        lines.append(f"host {host}")
+        for i in range(count // 16):
+            lines.append(f"send {i % 256} memwrite ns=1 at={(host * 256 + i) * 37 % 65_000} data={i % 256:02x}")
+            if i % 256 == 255:
+                lines += [f"take {cid}" for cid in range(256)]
     return ("\n".join(lines) + "\n").encode()
 
 
@@ -38,21 +51,23 @@ def shows(count):
 
 
 FORMS = [
-    ("small commands", commands, [4_096, 8_192, 16_384]),
-    ("reads of 8,192 bytes", reads, [4_096, 8_192, 16_384]),
-    ("shows of 8,192 bytes", shows, [256, 512, 1_024]),
+    ("small commands, 1 worker", ONE, commands, [4_096, 8_192, 16_384]),
+    ("small commands, 16 workers", SIXTEEN, commands, [4_096, 8_192, 16_384]),
+    ("16 queues of 256, 16 workers", SIXTEEN, deep_queues, [4_096, 8_192, 16_384]),
+    ("reads of 8,192 bytes", ONE, reads, [4_096, 8_192, 16_384]),
+    ("shows of 8,192 bytes", ONE, shows, [256, 512, 1_024]),
 ]
 
 
 def main():
     build()
-    empty = best_of(15, WORDS, b"nvmecp 1 block=512 depth=16 budget=1000\n", 0, keep=False)
+    empty = best_of(15, ONE, b"nvmecp 1 block=512 depth=16 budget=1000\n", 0, keep=False)
     print(f"a header alone: {empty.seconds * 1e3:.2f} ms, taken off below; {empty.peak_kib / 1024:.1f} MiB")
-    for name, script, sizes in FORMS:
-        rows = [(size, best_of(5, WORDS, script(size), 0, keep=False)) for size in sizes]
-        print(f"{name:20} {'count':>7} {'ms':>9} {'us each':>8} {'ratio':>6} {'peak MiB':>9}")
+    for name, words, script, sizes in FORMS:
+        rows = [(size, best_of(5, words, script(size), 0, keep=False)) for size in sizes]
+        print(f"{name:28} {'count':>7} {'ms':>9} {'us each':>8} {'ratio':>6} {'peak MiB':>9}")
         for size, run, seconds, ratio in doubled(rows, empty):
-            print(f"{'':20} {size:7} {seconds * 1e3:9.2f} {seconds / size * 1e6:8.3f} {ratio:>6} {run.peak_kib / 1024:9.1f}")
+            print(f"{'':28} {size:7} {seconds * 1e3:9.2f} {seconds / size * 1e6:8.3f} {ratio:>6} {run.peak_kib / 1024:9.1f}")
 
 
 if __name__ == "__main__":

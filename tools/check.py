@@ -1,6 +1,6 @@
 #!/usr/bin/env python3
 """What the merge gate does not see: the program as it is called, the examples, inputs at their limits and such as mean no
-good, the blocks of the documents and the page of definitions. `./check` calls it behind the gate.
+good, schedules, the blocks of the documents and the page of definitions. `./check` calls it behind the gate.
 
     python3 tools/check.py
 """
@@ -12,6 +12,7 @@ from pathlib import Path
 
 from crates import TOP
 from hostile import check_hostile
+from schedules import check_schedules
 
 PROGRAM = "./nvmecp"
 # More than the largest input, whose limit the documents state.
@@ -58,14 +59,16 @@ def beside(file, ending, otherwise=None):
 
 def check_examples(checks):
     """Each script gives what stands beside it: .expected, and where they are others than `step 1 0` and 0 the words in
-    .words and the status in .status. Assembly and code of one name give each other."""
+    .words and the status in .status. Where there are NAME.CASE.words too, it gives NAME.CASE.expected for them. Assembly
+    and code of one name give each other."""
     for script in sorted((TOP / "examples").glob("*.script")):
         name = script.relative_to(TOP)
-        words = beside(script, ".words", b"step 1 0").decode().strip()
-        status = int(beside(script, ".status", b"0"))
-        expected = beside(script, ".expected")
-        done = shell(f"{PROGRAM} {words} < {name}")
-        checks.note(f"{name}, {words}", wrong_in(done, status, expected) if expected is not None else "it has no .expected beside it")
+        for case in [script, *sorted(script.parent.glob(f"{script.stem}.*.words"))]:
+            words = beside(case, ".words", b"step 1 0").decode().strip()
+            status = int(beside(case, ".status", b"0"))
+            expected = beside(case, ".expected")
+            done = shell(f"{PROGRAM} {words} < {name}")
+            checks.note(f"{name}, {words}", wrong_in(done, status, expected) if expected is not None else "it has no .expected beside it")
     for text in sorted((TOP / "examples").glob("*.asm")):
         code = text.with_suffix(".hex")
         for word, source, target in (("asm", text, code), ("dis", code, text)):
@@ -75,7 +78,7 @@ def check_examples(checks):
 
 def check_statuses(checks):
     """The statuses that no example has."""
-    for words in ("", "help", "--help", "step", "step 1", "step 1 00", "step 0 0", "step -- 1 0", "step 1 0 0", "asm dis", "'' "):
+    for words in ("", "help", "--help", "step", "step 1", "step 1 00", "step 0 0", "step 17 0", "step -- 1 0", "step 1 0 0", "asm dis", "'' "):
         checks.note(f"wrong words: {words or 'none'}", wrong_in(shell(f"{PROGRAM} {words} < {FIRST_WRITE}"), 1, b""))
     for what, command, status, text in (
         ("standard input closed", f"{PROGRAM} step 1 0 <&-", 3, b""),
@@ -125,6 +128,7 @@ def main():
     check_examples(checks)
     check_statuses(checks)
     check_hostile(checks.note)
+    check_schedules(checks.note)
     for page in [*sorted(TOP.glob("*.md")), *sorted((TOP / "docs").glob("*.md"))]:
         check_blocks(checks, page)
         check_links(checks, page)

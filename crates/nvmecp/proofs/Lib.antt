@@ -1,11 +1,10 @@
-pub mod Counts
 pub mod Endings
 pub mod Fronts
 pub mod HexCode
 pub mod Inputs
-pub mod Legal
 pub mod OneOutput
 pub mod Printed
+pub mod Short
 pub mod Shows
-pub mod Steps
+pub mod Told
 pub mod Written

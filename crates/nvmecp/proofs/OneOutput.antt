@@ -1,6 +1,7 @@
 -- One question and one input have one output.
-use Rattle.std.proofs.Common.{◌≡◌, ℕ, ◌≤◌, List, length, codes, Option, Some, None, Result, Ok, Err, sym, ap, ◌∙◌, subst, arith}
+use Rattle.std.proofs.Common.{◌≡◌, ℕ, ◌≤◌, List, ◌++◌, length, codes, Option, Some, None, Result, Ok, Err, sym, ap, ◌∙◌, subst, arith}
 use Rattle.std.specs.Prelude.{unwrap_or}
+use Rattle.std.specs.List.{AllByRecursion, concat}
 use Rattle.std.proofs.lemmas.Bool.{false≢true}
 use Rattle.bpf_model.specs.Walk.{bad_place}
 use Rattle.bpf_asm.specs.Text.{IsCodeOf, IsFaultyAt, text_of_code}
@@ -11,8 +12,17 @@ use Rattle.script_cmds.specs.Text.{lines_of}
 use Rattle.script_cmds.proofs.OneText.{one_text}
 use Rattle.script_plan.proofs.FaultLines.{one_fault as one_breach, plan_or_fault}
 use Rattle.script_cmds.specs.declared.item.Phase.{Phase}
+use Rattle.cp_base.specs.Configuration.{Configuration}
 use Rattle.history_model.specs.Legal.{IsLegal}
+use Rattle.history_model.specs.Plain.{plain_phases}
+use Rattle.history_model.specs.Plan.{plan_of}
 use Rattle.history_model.proofs.OneHistory.{one-history}
+use Rattle.trail_model.specs.Lawful.{Trail, world_of}
+use Rattle.trail_model.specs.World.{first_world}
+use Rattle.schedule_model.specs.Schedule.{HasMemory, IsScheduled}
+use Rattle.schedule_model.proofs.Settled.{settled}
+use Rattle.nvmecp.specs.Lines.{ended_lines, shown_lines}
+use Rattle.nvmecp.proofs.Told.{printed_of}
 use Rattle.nvmecp.specs.Asm.{IsAssembly, TellsAssembly}
 use Rattle.nvmecp.specs.Code.{code_in, hex_line}
 use Rattle.nvmecp.specs.Dis.{BadCode, IsDisassembly, NotHex, TellsCode, TooMuch}
@@ -86,7 +96,7 @@ refusals_agree task input one other agree (Rejected short told) (TooLong long' i
 refusals_agree task input one other agree (Rejected short told) (Rejected short' told') = agree one other told told'
 
 pub refused : (word : Asked) (input one other : List ℕ) → IsRefusal (task_of word) input one → IsRefusal (task_of word) input other → one ≡ other
-refused (asked.Step choices) input one other a b = refusals_agree (task_of (asked.Step choices)) input one other (tells_script input) a b
+refused (asked.Step workers choices) input one other a b = refusals_agree (task_of (asked.Step workers choices)) input one other (tells_script input) a b
 refused asked.Asm input one other a b = refusals_agree (task_of asked.Asm) input one other (tells_assembly input) a b
 refused asked.Dis input one other a b = refusals_agree (task_of asked.Dis) input one other (tells_code input) a b
 
@@ -107,9 +117,9 @@ disassembled_or_told input one other a (BadCode code read short bad is) =
     let well = a.printed.program.well_formed in
     absurd (false≢true (sym bad ∙ rw same at well))
 
-planned_or_told : (input one other : List ℕ) → IsHistory input one → TellsScript input other → ⊥
-planned_or_told input one other a (Faulty fault is told) = not_both fault (first_fault input) a.faultless is
-planned_or_told input one other a (Unplanned script breach none read planned told) =
+planned_or_told : (workers choices : ℕ) (input one other : List ℕ) → IsHistory workers choices input one → TellsScript input other → ⊥
+planned_or_told workers choices input one other a (Faulty fault is told) = not_both fault (first_fault input) a.faultless is
+planned_or_told workers choices input one other a (Unplanned script breach none read planned told) =
     plan_or_fault a.script script a.print.plan breach (same_lines a.script script input a.read read) a.print.planned planned
 
 ends_once : (task : Task) (input one other : List ℕ) → length input ≤ task.limit → ((t : List ℕ) → task.Refuses input t → ⊥) → IsRefusal task input other → ⊥
@@ -117,7 +127,8 @@ ends_once task input one other short never (TooLong long is) = absurd (omega (ar
 ends_once task input one other short never (Rejected within told) = never other told
 
 pub one_end : (word : Asked) (input one other : List ℕ) → length input ≤ (task_of word).limit → (task_of word).Answers input one → IsRefusal (task_of word) input other → ⊥
-one_end (asked.Step choices) input one other short a b = ends_once (task_of (asked.Step choices)) input one other short (λ t told. planned_or_told input one t a told) b
+one_end (asked.Step workers choices) input one other short a b =
+    ends_once (task_of (asked.Step workers choices)) input one other short (λ t told. planned_or_told workers choices input one t a told) b
 one_end asked.Asm input one other short a b = ends_once (task_of asked.Asm) input one other short (λ t told. assembled_or_told input one t a told) b
 one_end asked.Dis input one other short a b = ends_once (task_of asked.Dis) input one other short (λ t told. disassembled_or_told input one t a told) b
 
@@ -127,8 +138,28 @@ abbrev ok_or : {A E : Type 0} → A → Result A E → A
 ok_or x (Ok y) = y
 ok_or x (Err e) = x
 
-pub one_history : (script : Script) (text : List ℕ) (one other : IsPrintOf script text) → one.history ≡ other.history
-one_history script text one other =
-    let same : one.plan ≡ other.plan = ap (ok_or one.plan) (sym one.planned ∙ other.planned) in
-    let legal : IsLegal script.config one.plan other.history = subst (λ (plan : List Phase). IsLegal script.config plan other.history) (sym same) other.legal in
-    one-history script.config one.plan script.shows one.history other.history one.legal legal one.sized other.sized (sym one.printed ∙ other.printed)
+same_plans : (script : Script) (plan other : List Phase) → plan_of script ≡ Ok plan → plan_of script ≡ Ok other → plan ≡ other
+same_plans script plan other is is' = ap (ok_or plan) (sym is ∙ is')
+
+pub one_history : (script : Script) (text : List ℕ) (workers choices others more : ℕ) (one : IsPrintOf script workers choices text)
+    (other : IsPrintOf script others more text) → one.tells.history ≡ other.tells.history
+one_history script text workers choices others more one other =
+    let c : Configuration = script.config in
+    let same : one.plan ≡ other.plan = same_plans script one.plan other.plan one.planned other.planned in
+    let legal : IsLegal c one.plan other.tells.history = subst (λ (plan : List Phase). IsLegal c plan other.tells.history) (sym same) other.tells.legal in
+    one-history c one.plan script.shows one.tells.history other.tells.history one.tells.legal legal one.sized other.sized (sym one.printed ∙ other.printed)
+
+-- ---- workers and choices select one text
+
+pub one_schedule : (script : Script) (workers choices : ℕ) (text second : List ℕ) (one : IsPrintOf script workers choices text)
+    (other : IsPrintOf script workers choices second) → AllByRecursion HasMemory one.trail → AllByRecursion HasMemory other.trail → text ≡ second
+one_schedule script workers choices text second one other memory memory' =
+    let c : Configuration = script.config in
+    let plans : one.plan ≡ other.plan = same_plans script one.plan other.plan one.planned other.planned in
+    let runs : IsScheduled c (plain_phases one.plan) workers choices other.trail =
+    subst (λ (plan : List Phase). IsScheduled c (plain_phases plan) workers choices other.trail) (sym plans) other.scheduled in
+    let trails : one.trail ≡ other.trail = settled c workers (first_world c) (plain_phases one.plan) choices one.trail other.trail one.scheduled runs memory memory' in
+    let text_after : Trail → List ℕ =
+    λ trail. concat (ended_lines 1 (world_of c trail).history) ++ concat (shown_lines (world_of c trail).state.contents script.shows) in
+    one.printed ∙ printed_of c script.shows one.plan (world_of c one.trail) one.tells ∙ ap text_after trails
+    ∙ sym (printed_of c script.shows other.plan (world_of c other.trail) other.tells) ∙ sym other.printed

@@ -1,68 +1,138 @@
--- What is printed of a plan that was carried out is a legal history of the script.
-use Rattle.std.proofs.Common.{◌≡◌, ℕ, List, [], ◌++◌, length, map, Result, Ok, Err, is_ok, sym, refl, ap, ◌∙◌, subst}
-use Rattle.std.specs.List.{concat}
+-- What is printed of a device that followed the schedule of a script's plan.
+use Rattle.std.proofs.Common.{◌≡◌, ℕ, ◌≤◌, ◌<◌, List, ◌++◌, length, map, Option, Result, Ok, Err, is_ok, sym, refl, ap, ◌∙◌, subst, arith}
+use Rattle.std.specs.Prelude.{IsPermutation, IsSome, unwrap_or}
+use Rattle.std.specs.List.{All, concat, slice_get}
 use Rattle.std.proofs.lemmas.Bool.{false≢true}
-use Rattle.std.proofs.lemmas.List.{length-map}
-use Rattle.cp_base.specs.Answer.{Answer, answer_of}
-use Rattle.cp_base.specs.Configuration.{Configuration}
-use Rattle.device_model.specs.State.{State, opening}
+use Rattle.std.proofs.lemmas.Option.{slice_get-get_or}
+use Rattle.cp_base.specs.Configuration.{Configuration, size_of}
+use Rattle.cp_base.specs.Contents.{bytes_of}
+use Rattle.cp_base.specs.declared.limits.TheConstants.{MAX_COMMANDS}
+use Rattle.cp_base.specs.declared.region.SpaceId.{SpaceId}
+use Rattle.device_model.specs.State.{State}
 use Rattle.script_cmds.specs.declared.item.Phase.{Phase}
 use Rattle.script_line.specs.Sized.{AreSized}
 use Rattle.script_cmds.specs.Kept.{KeepsOrderAndLimits}
 use Rattle.script_cmds.specs.Text.{lines_of}
 use Rattle.script_cmds.specs.declared.script.Script.{Script}
+use Rattle.script_cmds.proofs.HostLaws.{few_sends}
 use Rattle.history_model.specs.Entry.{Entry}
-use Rattle.history_model.specs.Legal.{IsLegal}
+use Rattle.history_model.specs.Legal.{IsLegal, last_state}
 use Rattle.history_model.specs.Plain.{PlainPart, plain_phase, plain_phases}
 use Rattle.history_model.specs.Plan.{PlanFault, plan_of}
+use Rattle.history_model.specs.Rules.{KeepsRules}
 use Rattle.history_model.specs.Sent.{Sent, sends_of}
-use Rattle.history_model.specs.Text.{entries_text, shows_text}
 use Rattle.script_plan.specs.Meant.{meant}
+use Rattle.script_plan.proofs.Counting.{length-sends_of}
 use Rattle.script_plan.proofs.SizedSends.{script_sized}
-use Rattle.nvmecp.specs.Finished.{IsFinished, finished_text}
+use Rattle.trail_model.specs.Lawful.{Trail, world_of}
+use Rattle.trail_model.specs.World.{World, home}
+use Rattle.trail_model.proofs.Sound.{sound-world}
+use Rattle.device_core.specs.Gives.{world_in}
+use Rattle.schedule_model.specs.Schedule.{IsScheduled}
+use Rattle.schedule_model.specs.Told.{TellsPlan}
+use Rattle.schedule_model.proofs.Scheduling.{scheduled}
+use Rattle.nvmecp.specs.Finished.{IsFinished, printed_text}
+use Rattle.nvmecp.specs.Lines.{ended_lines, shown_lines}
+use Rattle.nvmecp.specs.Shown.{AreShort, IsAtHome}
 use Rattle.nvmecp.specs.Step.{IsPrintOf}
-use Rattle.nvmecp.specs.Lines.{place_lines, shown_lines}
-use Rattle.nvmecp.specs.Place.{Place, CarriesOut, place_of, places_of_phases}
-use Rattle.nvmecp.specs.Shown.{places_of}
-use Rattle.nvmecp.specs.declared.in_order.Finished.{Finished}
-use Rattle.nvmecp.proofs.Legal.{entries_of, last_is, legal, lines_are, places_are, shows_are}
+use Rattle.nvmecp.specs.declared.scheduled.Finished.{Finished}
+use Rattle.nvmecp.proofs.Short.{script_short}
+use Rattle.nvmecp.proofs.Told.{printed_of, short_told}
 
--- a plan has a place for each command
-pub count_places : (plan : List Phase) → length (places_of_phases [] plan) ≡ length (sends_of plan)
-count_places plan = ap length (places_are plan) ∙ length-map (sends_of plan) place_of
+-- the definition's plan, where what is planned has a meaning
+record IsGiven (r : Result (List Phase) PlanFault) (plain : List (List PlainPart)) : Type 0 where
+  given : List Phase
+  is : r ≡ Ok given
+  same : plain_phases given ≡ plain
 
--- where what is planned has a meaning, there is a plan
-has_plan : (r : Result (List Phase) PlanFault) (plain : List (List PlainPart)) → meant plain_phase r ≡ Ok plain → (given : List Phase) × (r ≡ Ok given)
-has_plan (Ok given) plain is = (given, refl)
+has_plan : (r : Result (List Phase) PlanFault) (plain : List (List PlainPart)) → meant plain_phase r ≡ Ok plain → IsGiven r plain
+has_plan (Ok given) plain is = record { given = given; is = refl; same = cc }
 has_plan (Err fault) plain is = absurd (false≢true (ap is_ok is))
 
-of_plan : (script : Script) (phases given : List Phase) (f : Finished) → AreSized (lines_of script) → KeepsOrderAndLimits script → plan_of script ≡ Ok given → sends_of given ≡ sends_of phases
-    → IsFinished script.config phases f → IsPrintOf script (finished_text f script.shows)
-of_plan script phases given f sized kept planned same h =
+-- a history is legal for each plan that sends the same commands
+legal_alike : (c : Configuration) (plan other : List Phase) (history : List Entry) → sends_of other ≡ sends_of plan → IsLegal c plan history → IsLegal c other history
+legal_alike c plan other history same legal = record {
+  each_once = subst (λ (xs : List Sent). IsPermutation (map (λ (entry : Entry). entry.sent) history) xs) (sym same) legal.each_once;
+  in_order = legal.in_order;
+  replays = legal.replays;
+  paired = legal.paired;
+}
+
+tells_alike : (c : Configuration) (plan other : List Phase) (w : World) → sends_of other ≡ sends_of plan → TellsPlan c plan w → TellsPlan c other w
+tells_alike c plan other w same t = record {
+  history = t.history;
+  told = t.told;
+  legal = legal_alike c plan other t.history same t.legal;
+  last = t.last;
+  none_outstanding = t.none_outstanding;
+  none_open = t.none_open;
+  at_home = t.at_home;
+}
+
+-- what a finished device tells, by the script's configuration
+told_by : (c : Configuration) (phases : List Phase) (workers choices : ℕ) (f : Finished) → IsFinished c phases workers choices f → TellsPlan c phases (world_of c f.core.trail)
+told_by c phases workers choices f h = subst (λ (x : Configuration). TellsPlan c phases (world_of x f.core.trail)) h.config h.told
+
+of_plan : (script : Script) (phases given : List Phase) (workers choices : ℕ) (f : Finished) → AreSized (lines_of script) → KeepsOrderAndLimits script
+    → plan_of script ≡ Ok given → plain_phases given ≡ plain_phases phases → sends_of given ≡ sends_of phases
+    → IsFinished script.config phases workers choices f → IsPrintOf script workers choices (printed_text f.core script.shows)
+of_plan script phases given workers choices f sized kept planned plain same h =
     let c : Configuration = script.config in
-    let sents : List Sent = sends_of given in
-    let answers : List Answer = map answer_of f.replies.items in
-    let last : State = f.device.state in
-    let places : places_of f.placed.items ≡ map place_of sents = h.placed ∙ ap (map place_of) (sym same) in
-    let carried : CarriesOut c (opening c) (map place_of sents) answers last = subst (λ (ps : List Place). CarriesOut c (opening c) ps answers last) places h.carried in
-    let entries : List Entry = entries_of sents answers in
-    let is_legal : IsLegal c given entries = legal c given answers last carried in
-    let shown : List ℕ = concat (shown_lines last.contents script.shows) in
+    let trail : Trail = f.core.trail in
+    let w : World = world_of c trail in
+    let tells : TellsPlan c given w = tells_alike c phases given w same (told_by c phases workers choices f h) in
     record {
       plan = given;
       planned = planned;
-      history = entries;
-      legal = is_legal;
-      sized = script_sized script given entries sized kept planned is_legal;
-      printed = ap (λ (ps : List Place). concat (place_lines 1 ps answers) ++ shown) places ∙ ap (λ (text : List ℕ). text ++ shown) (lines_are 1 sents answers)
-          ∙ ap (λ (text : List ℕ). entries_text 1 entries ++ text) (shows_are last.contents script.shows)
-          ∙ ap (λ (s : State). entries_text 1 entries ++ shows_text s.contents script.shows) (sym (last_is c (opening c) sents answers last carried));
+      trail = trail;
+      scheduled = subst (λ (ps : List (List PlainPart)). IsScheduled c ps workers choices trail) (sym plain) h.scheduled;
+      tells = tells;
+      sized = script_sized script given tells.history sized kept planned tells.legal;
+      printed = ap (λ (x : Configuration). concat (ended_lines 1 (world_of x trail).history) ++ concat (shown_lines (world_of x trail).state.contents script.shows)) h.config
+          ∙ sym (printed_of c script.shows given w tells);
     }
 
 -- what is printed of a plan that was carried out
-pub print_of : (script : Script) (phases : List Phase) (f : Finished) → AreSized (lines_of script) → KeepsOrderAndLimits script → meant plain_phase (plan_of script) ≡ Ok (plain_phases phases)
-    → ((given : List Phase) → plan_of script ≡ Ok given → sends_of given ≡ sends_of phases)
-    → IsFinished script.config phases f → IsPrintOf script (finished_text f script.shows)
-print_of script phases f sized kept planned same h =
+pub print_of : (script : Script) (phases : List Phase) (workers choices : ℕ) (f : Finished) → AreSized (lines_of script) → KeepsOrderAndLimits script
+    → meant plain_phase (plan_of script) ≡ Ok (plain_phases phases) → ((given : List Phase) → plan_of script ≡ Ok given → sends_of given ≡ sends_of phases)
+    → IsFinished script.config phases workers choices f → IsPrintOf script workers choices (printed_text f.core script.shows)
+print_of script phases workers choices f sized kept planned same h =
     let found = has_plan (plan_of script) (plain_phases phases) planned in
-    of_plan script phases found.0 f sized kept found.1 (same found.0 found.1) h
+    of_plan script phases found.given workers choices f sized kept found.is found.same (same found.given found.is) h
+
+-- a plan has no more commands than a device carries out
+pub few_commands : (script : Script) (phases : List Phase) (commands : ℕ) → KeepsOrderAndLimits script → commands ≡ length (sends_of phases)
+    → sends_of phases ≡ sends_of script.phases → commands ≤ MAX_COMMANDS
+few_commands script phases commands kept is same =
+    let count : length (sends_of phases) ≡ length (sends_of script.phases) = ap length same in
+    omega (arith, is, count, length-sends_of script.phases, few_sends script kept)
+
+-- no line of it is too long
+pub short_of : (script : Script) (phases : List Phase) (workers choices : ℕ) (f : Finished) → AreSized (lines_of script) → KeepsOrderAndLimits script
+    → sends_of phases ≡ sends_of script.phases → IsFinished script.config phases workers choices f → AreShort (world_in f.core).history
+short_of script phases workers choices f sized kept same h =
+    short_told (world_in f.core).history h.told.history h.told.told (script_short script phases h.told.history sized kept same h.told.legal)
+
+-- ---- each byte is at home
+
+some_within : (bytes : List ℕ) (offset : ℕ) → offset < length bytes → IsSome (slice_get bytes offset)
+some_within bytes offset below = subst (λ (o : Option ℕ). IsSome o) (sym (slice_get-get_or bytes offset 0 below)) refl
+
+-- each byte of each namespace is at home after a trail
+abbrev AtHomeAfter : Configuration → Trail → Type 0
+AtHomeAfter c trail = (space : SpaceId) (offset : ℕ) → offset < unwrap_or (size_of c space) 0 → IsSome (home c (world_of c trail) space offset)
+
+at_home_after : (c : Configuration) (phases : List Phase) (workers choices : ℕ) (trail : Trail) → All (KeepsRules c.depth) phases
+    → IsScheduled c (plain_phases phases) workers choices trail → TellsPlan c phases (world_of c trail) → AtHomeAfter c trail
+at_home_after c phases workers choices trail rules runs told space offset below =
+    let lawful = (scheduled c phases workers choices trail rules runs).lawful in
+    let fits = (sound-world c (length (sends_of phases)) trail lawful).fits in
+    let bytes : List ℕ = bytes_of (last_state c told.history).contents space in
+    let size : length bytes ≡ unwrap_or (size_of c space) 0 = ap (λ (s : State). length (bytes_of s.contents space)) told.last ∙ fits.sizes space in
+    subst (λ (o : Option ℕ). IsSome o) (sym (told.at_home space offset)) (some_within bytes offset (omega (arith, size, below)))
+
+pub at_home_of : (c : Configuration) (phases : List Phase) (workers choices : ℕ) (f : Finished) → All (KeepsRules c.depth) phases
+    → IsFinished c phases workers choices f → IsAtHome f.core
+at_home_of c phases workers choices f rules h =
+    subst (λ (x : Configuration). AtHomeAfter x f.core.trail) (sym h.config)
+    (at_home_after c phases workers choices f.core.trail rules h.scheduled (told_by c phases workers choices f h))

@@ -1,21 +1,20 @@
 -- Lines that are written one by one.
-use Rattle.std.proofs.Common.{◌≡◌, ℕ, zero, suc, ◌+◌, ◌<◌, ◌≤◌, List, [], ◌∷◌, ◌++◌, length, take, drop, get_or, map, Option, Result, Ok, Err, OnErr, OnOk, sym, refl, ap, ◌∙◌, subst, arith}
+use Rattle.std.proofs.Common.{◌≡◌, ℕ, zero, suc, ◌+◌, ◌<◌, ◌≤◌, List, [], ◌∷◌, ◌++◌, length, take, drop, get_or, Option, Some, None, Result, Ok, Err, OnErr, OnOk, sym, refl, ap, ◌∙◌, subst, arith}
+use Rattle.std.specs.Prelude.{option_map, slice_get}
 use Rattle.std.specs.List.{concat}
 use Rattle.std.specs.Io.KnownBytes.{Appends}
 use Rattle.std.proofs.KnownBytes.{Appends-trans}
 use Rattle.std.proofs.lemmas.List.{get_or-map as within, append-nil, length-map, take_all, take_more, take-append-drop}
 use Rattle.std.proofs.lemmas.List.Folds.{concat-append}
-use Rattle.std.proofs.Math.ListN.{get_or-map}
-use Rattle.cp_base.specs.Answer.{Answer, answer_of}
 use Rattle.cp_base.specs.Contents.{Contents, bytes_in}
-use Rattle.cp_base.specs.declared.replies.Reply.{Reply}
+use Rattle.cp_base.specs.declared.limits.TheConstants.{MAX_TRANSFER}
 use Rattle.cp_io.specs.Sink.{AppendsFront}
 use Rattle.script_cmds.specs.declared.item.Show.{Show}
 use Rattle.history_model.specs.Text.{shown_text}
-use Rattle.nvmecp.specs.Lines.{place_line, place_lines, shown_lines}
-use Rattle.nvmecp.specs.Place.{Place}
-use Rattle.nvmecp.specs.Shown.{place_of_placed, places_of}
-use Rattle.nvmecp.specs.declared.in_order.Placed.{Placed}
+use Rattle.trail_model.specs.World.{Completion}
+use Rattle.device_core.specs.Gives.{Ended, ended_by}
+use Rattle.nvmecp.specs.Lines.{ended_line, ended_lines, shown_lines}
+use Rattle.nvmecp.specs.Shown.{AreShort}
 use Rattle.nvmecp.proofs.Fronts.{front_of_first, front_of_second}
 
 -- the lines before one and the line itself
@@ -47,41 +46,43 @@ cut old mid new lines i line below is before wrote =
     (front_of_first old new (concat (take i lines) ++ line) (concat (drop (i + 1) lines))
     (front_of_second old mid new (concat (take i lines)) line before wrote))
 
--- the line of a command among those of all
-pub nth_line : (k : ℕ) (places : List Place) (answers : List Answer) (i : ℕ) (p : Place) (answer : Answer) → length places ≡ length answers → i < length places
-    → get_or (place_lines k places answers) i [] ≡ place_line (k + i) (get_or places i p) (get_or answers i answer)
-nth_line k [] answers i p answer same below = absurd (omega arith)
-nth_line k (q ∷ places) [] i p answer same below = absurd (omega (arith, same))
-nth_line k (q ∷ places) (a ∷ answers) zero p answer same below = ap (λ (n : ℕ). place_line n q a) (omega arith)
-nth_line k (q ∷ places) (a ∷ answers) (suc i) p answer same below =
-    nth_line (k + 1) places answers i p answer (omega (arith, same)) (omega (arith, below))
-    ∙ ap (λ (n : ℕ). place_line n (get_or places i p) (get_or answers i answer)) (omega arith)
+-- the line of a command that is over among those of all
+nth_line : (n : ℕ) (history : List Completion) (k : ℕ) (e : Ended) → Some e ≡ option_map ended_by (slice_get history k)
+    → get_or (ended_lines n history) k [] ≡ ended_line (n + k) e
+nth_line n [] k e is = absurd cc
+nth_line n (done ∷ history) zero e is =
+    let same : ended_by done ≡ e = cc in
+    ap (λ (m : ℕ). ended_line m (ended_by done)) (omega arith) ∙ ap (ended_line (n + 0)) same
+nth_line n (done ∷ history) (suc k) e is =
+    nth_line (n + 1) history k e is ∙ ap (λ (m : ℕ). ended_line m e) (omega arith)
 
--- each command has its line
-pub length-lines : (k : ℕ) (places : List Place) (answers : List Answer) → length places ≡ length answers → length (place_lines k places answers) ≡ length places
-length-lines k [] answers same = refl
-length-lines k (q ∷ places) [] same = absurd (omega (arith, same))
-length-lines k (q ∷ places) (a ∷ answers) same = ap {B = ℕ} suc (length-lines (k + 1) places answers (omega (arith, same)))
+-- the line of an entry that is told
+pub the_line : (history : List Completion) (k : ℕ) (e : Ended) → Some e ≡ option_map ended_by (slice_get history k)
+    → get_or (ended_lines 1 history) k [] ≡ ended_line (k + 1) e
+the_line history k e is = nth_line 1 history k e is ∙ ap (λ (m : ℕ). ended_line m e) (omega arith)
 
--- a command that is kept, its reply, and their line
-pub the_line : (placed : List Placed) (replies : List Reply) (i : ℕ) (p : Placed) (r : Reply) → length placed ≡ length replies → i < length placed
-    → p ≡ get_or placed i p → r ≡ get_or replies i r
-    → get_or (place_lines 1 (places_of placed) (map answer_of replies)) i [] ≡ place_line (i + 1) (place_of_placed p) (answer_of r)
-the_line placed replies i p r same below p-is r-is =
-    let line = nth_line 1 (places_of placed) (map answer_of replies) i (place_of_placed p) (answer_of r)
-    (omega (arith, same, length-map placed place_of_placed, length-map replies answer_of)) (omega (arith, below, length-map placed place_of_placed)) in
-    let place : get_or (places_of placed) i (place_of_placed p) ≡ place_of_placed p = get_or-map place_of_placed placed i p ∙ ap place_of_placed (sym p-is) in
-    let answer : get_or (map answer_of replies) i (answer_of r) ≡ answer_of r = get_or-map answer_of replies i r ∙ ap answer_of (sym r-is) in
-    line ∙ ap (λ (q : Place). place_line (1 + i) q (get_or (map answer_of replies) i (answer_of r))) place
-    ∙ ap (λ (a : Answer). place_line (1 + i) (place_of_placed p) a) answer
-    ∙ ap (λ (n : ℕ). place_line n (place_of_placed p) (answer_of r)) (omega arith)
+-- there are as many lines as commands that are over
+count_from : (n : ℕ) (history : List Completion) → length (ended_lines n history) ≡ length history
+count_from n [] = refl
+count_from n (done ∷ history) = ap {B = ℕ} suc (count_from (n + 1) history)
 
--- there are as many lines as commands
-pub count_lines : (placed : List Placed) (replies : List Reply) → length placed ≡ length replies
-    → length (place_lines 1 (places_of placed) (map answer_of replies)) ≡ length placed
-count_lines placed replies same =
-    length-lines 1 (places_of placed) (map answer_of replies) (omega (arith, same, length-map placed place_of_placed, length-map replies answer_of))
-    ∙ length-map placed place_of_placed
+pub count_lines : (history : List Completion) → length (ended_lines 1 history) ≡ length history
+count_lines history = count_from 1 history
+
+-- an entry that is told is short, where all are
+pub short_entry : (history : List Completion) (k : ℕ) (e : Ended) → Some e ≡ option_map ended_by (slice_get history k) → AreShort history
+    → length e.answer.bytes ≤ MAX_TRANSFER
+short_entry [] k e is all = absurd cc
+short_entry (done ∷ history) zero e is all =
+    let same : ended_by done ≡ e = cc in
+    subst (λ (x : Ended). length x.answer.bytes ≤ MAX_TRANSFER) same all.0
+short_entry (done ∷ history) (suc k) e is all = short_entry history k e is all.1
+
+-- there is an entry of each number below the count
+pub no_end : (history : List Completion) (k : ℕ) → k < length history → None ≡ option_map ended_by (slice_get history k) → ⊥
+no_end [] k below is = absurd (omega (arith, below))
+no_end (done ∷ history) zero below is = absurd cc
+no_end (done ∷ history) (suc k) below is = no_end history k (omega (arith, below)) is
 
 -- all lines are written
 pub all : (old new : Option (List ℕ)) (lines : List (List ℕ)) (i : ℕ) → length lines ≤ i → Appends old new (concat (take i lines)) → Appends old new (concat lines)

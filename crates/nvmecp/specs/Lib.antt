@@ -4,7 +4,6 @@ pub mod Dis
 pub mod Ends
 pub mod Finished
 pub mod Lines
-pub mod Place
 pub mod Refusal
 pub mod Run
 pub mod Shown

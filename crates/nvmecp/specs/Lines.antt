@@ -1,21 +1,20 @@
 -- The lines that are printed of a script, one by one. This project's own.
 use Rattle.std.specs.Prelude.{ℕ, ◌+◌, List, [], ◌∷◌, map}
-use Rattle.cp_base.specs.Answer.{Answer}
 use Rattle.cp_base.specs.Contents.{Contents, bytes_in}
 use Rattle.cp_base.specs.Words.{word_of}
 use Rattle.script_cmds.specs.declared.item.Show.{Show}
 use Rattle.history_model.specs.Text.{line_of_entry, shown_text}
-use Rattle.nvmecp.specs.Place.{Place}
+use Rattle.trail_model.specs.World.{Completion}
+use Rattle.device_core.specs.Gives.{Ended, ended_by}
 
--- the line of a command and what was answered
-abbrev pub place_line : ℕ → Place → Answer → List ℕ
-place_line k p answer = line_of_entry k p.host p.ordinal p.cid (word_of p.command) answer.status answer.result answer.bytes
+-- the line of a command that is over
+abbrev pub ended_line : ℕ → Ended → List ℕ
+ended_line k e = line_of_entry k e.host e.ordinal e.cid (word_of e.command) e.answer.status e.answer.result e.answer.bytes
 
--- the lines of commands and of what was answered, of which the first has this number
-abbrev pub place_lines : ℕ → List Place → List Answer → List (List ℕ)
-place_lines k (p ∷ places) (answer ∷ answers) = place_line k p answer ∷ place_lines (k + 1) places answers
-place_lines k [] answers = []
-place_lines k (p ∷ places) [] = []
+-- the lines of completions, of which the first has this number
+abbrev pub ended_lines : ℕ → List Completion → List (List ℕ)
+ended_lines k [] = []
+ended_lines k (done ∷ history) = ended_line k (ended_by done) ∷ ended_lines (k + 1) history
 
 -- the lines of the shows
 abbrev pub shown_lines : Contents → List Show → List (List ℕ)

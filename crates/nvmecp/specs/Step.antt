@@ -6,11 +6,13 @@ use Rattle.script_cmds.specs.declared.script.Script.{Script}
 use Rattle.script_cmds.specs.Fault.{first_fault}
 use Rattle.script_line.specs.Sized.{AreSized}
 use Rattle.script_cmds.specs.Text.{lines_of, script_text}
-use Rattle.history_model.specs.Entry.{Entry}
-use Rattle.history_model.specs.Legal.{IsLegal}
+use Rattle.history_model.specs.Plain.{plain_phases}
 use Rattle.history_model.specs.Plan.{PlanFault, plan_of}
 use Rattle.history_model.specs.Sized.{IsSizedEntry}
 use Rattle.history_model.specs.Text.{history_text}
+use Rattle.trail_model.specs.Lawful.{Trail, world_of}
+use Rattle.schedule_model.specs.Schedule.{IsScheduled}
+use Rattle.schedule_model.specs.Told.{TellsPlan}
 use Rattle.nvmecp.specs.Refusal.{breach_line, fault_line}
 use Rattle.nvmecp.specs.Task.{Task, max_input}
 
@@ -28,22 +30,24 @@ pub record HasPlan (input : List ℕ) : Type 0 where
 abbrev pub HasNoPlan : List ℕ → Type 0
 HasNoPlan input = (first_fault input ≡ None → ⊥) ⊎ ((script : Script) → IsTextOf script input → IsErr (plan_of script))
 
--- The text is that of a history that is legal for the plan of a script. Its numbers have 64 bits, and what
--- was read are bytes: so the text tells the history.
-pub record IsPrintOf (script : Script) (text : List ℕ) : Type 0 where
+-- The text is that of the history of the schedule that a number of workers and a number that chooses select: a trail of that
+-- schedule tells a history that is legal for the plan of the script, with no command outstanding, no claim open and each
+-- byte at home at its end. The history's numbers have 64 bits, and what was read are bytes: so the text tells the history.
+pub record IsPrintOf (script : Script) (workers choices : ℕ) (text : List ℕ) : Type 0 where
   pub plan : List Phase
   pub planned : plan_of script ≡ Ok plan
-  pub history : List Entry
-  pub legal : IsLegal script.config plan history
-  pub sized : All IsSizedEntry history
-  pub printed : text ≡ history_text script.config script.shows history
+  pub trail : Trail
+  pub scheduled : IsScheduled script.config (plain_phases plan) workers choices trail
+  pub tells : TellsPlan script.config plan (world_of script.config trail)
+  pub sized : All IsSizedEntry tells.history
+  pub printed : text ≡ history_text script.config script.shows tells.history
 
--- The input is a script, and the text is that of a history that is legal for its plan.
-pub record IsHistory (input : List ℕ) (text : List ℕ) : Type 0 where
+-- The input is a script, and the text is that of the history of the schedule that is selected.
+pub record IsHistory (workers choices : ℕ) (input : List ℕ) (text : List ℕ) : Type 0 where
   pub faultless : first_fault input ≡ None
   pub script : Script
   pub read : IsTextOf script input
-  pub print : IsPrintOf script text
+  pub print : IsPrintOf script workers choices text
 
 -- What is told of an input that is no script with a plan: its first faulty line, or, where no line is
 -- faulty, the first line that breaks a rule of queues.
@@ -52,6 +56,12 @@ pub data TellsScript (input : List ℕ) (text : List ℕ) : Type 0 where
   Unplanned : (script : Script) (fault : PlanFault) → first_fault input ≡ None → IsTextOf script input
       → plan_of script ≡ Err fault → text ≡ breach_line fault → TellsScript input text
 
--- what `step` does with its input
-abbrev pub step_task : Task
-step_task = record { limit = max_input; Accepts = HasPlan; Rejects = HasNoPlan; Answers = IsHistory; Refuses = TellsScript }
+-- what `step` with so many workers and these choices does with its input
+abbrev pub step_task : ℕ → ℕ → Task
+step_task workers choices = record {
+  limit = max_input;
+  Accepts = HasPlan;
+  Rejects = HasNoPlan;
+  Answers = IsHistory workers choices;
+  Refuses = TellsScript;
+}

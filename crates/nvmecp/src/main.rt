@@ -11,11 +11,11 @@ ghost use Rattle.nvmecp.specs.Run.{Ran};
 mod asm;
 mod dis;
 mod ending;
-mod in_order;
 mod laws;
 mod printing;
 mod refusing;
 mod run;
+mod scheduled;
 mod step;
 #[cfg(test)]
 mod tests;

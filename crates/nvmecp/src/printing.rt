@@ -1,52 +1,51 @@
-// Printing: the line of each command, then the line of each show, each offered to the sink as one piece
+// Printing: the line of each command that is over, then the line of each show, each offered to the sink as one piece
 // from one line buffer that has room for the longest line.
-ghost use Rattle.std.specs.Prelude.{◌≡◌, ◌≢◌, ◌+◌, ◌-◌, ◌<◌, ◌≤◌, ◌^◌, ◌⊎◌, All, length, map, slice_index, take, unwrap_or, OnOk, OnErr};
+ghost use Rattle.std.specs.Prelude.{◌≡◌, ◌≢◌, ◌+◌, ◌-◌, ◌<◌, ◌≤◌, ◌⊎◌, All, length, slice_index, take, unwrap_or, OnOk, OnErr};
 ghost use Rattle.std.specs.List.{concat};
 ghost use Rattle.std.specs.Io.KnownBytes.{Appends};
-ghost use Rattle.cp_base.specs.Answer.{answer_of};
 ghost use Rattle.cp_base.specs.Configuration.{size_of};
 ghost use Rattle.cp_base.specs.Contents.{bytes_in};
 ghost use Rattle.cp_io.specs.Counting.{Rose};
 ghost use Rattle.cp_io.specs.Sink.{AppendsFront};
 ghost use Rattle.history_model.specs.Text.{shown_text};
+ghost use Rattle.device_core.specs.Gives.{ended_as_shown, world_in};
 ghost use Rattle.nvmecp.specs.Ends.{EndsAnswered};
-ghost use Rattle.nvmecp.specs.Finished.{IsPrintable, finished_text};
-ghost use Rattle.nvmecp.specs.Lines.{place_line, place_lines, shown_lines};
-ghost use Rattle.nvmecp.specs.Shown.{AreInside, AreShort, HasRoom, place_of_placed, places_of};
+ghost use Rattle.nvmecp.specs.Finished.{printed_text};
+ghost use Rattle.nvmecp.specs.Lines.{ended_line, ended_lines, shown_lines};
+ghost use Rattle.nvmecp.specs.Shown.{AreInside, AreShort, HasRoom, IsAtHome};
 
 use crate::ending::Ending;
-use crate::in_order::{Finished, Placed};
-use cp_base::{Bytes, MAX_TRANSFER, Reply};
+use crate::scheduled::Finished;
+use cp_base::{Bytes, MAX_TRANSFER};
 use cp_io::{Sink, WriteFault, write_all};
+use device_core::{Core, EntryRef};
 use replay_print::{EntryLine, LONGEST_LINE, push_entry, push_show};
 use script_cmds::Show;
-use seq_device::SeqDevice;
 
-// Writes the line of a command and its reply.
+// Writes the line of a command that is over. The line's number `k` counts from 1.
 fn print_entry<K: Sink>(
     sink: &mut K,
     line: &mut Bytes,
     k: u32,
-    placed: &Placed,
-    reply: &Reply,
+    entry: &EntryRef<'_>,
 ) -> Result<(), WriteFault>
     requires room { HasRoom LONGEST_LINE line.old }
-    requires short { length reply.now.bytes.items ≤ MAX_TRANSFER }
+    requires short { length entry.now.reply.now.bytes.items ≤ MAX_TRANSFER }
     ensures room { HasRoom LONGEST_LINE line.new }
-    ensures all { OnOk result (Appends (K.held sink.old) (K.held sink.new) (place_line k (place_of_placed placed.now) (answer_of reply.now))) }
-    ensures front { OnErr result (AppendsFront (K.held sink.old) (K.held sink.new) (place_line k (place_of_placed placed.now) (answer_of reply.now))) }
+    ensures all { OnOk result (Appends (K.held sink.old) (K.held sink.new) (ended_line k (ended_as_shown entry.now))) }
+    ensures front { OnErr result (AppendsFront (K.held sink.old) (K.held sink.new) (ended_line k (ended_as_shown entry.now))) }
     ensures fault { OnErr result (Rose (K.faults sink.old) (K.faults sink.new)) }
     ensures later { K.faults sink.old ≤ K.faults sink.new }
 {
     line.clear();
     let entry = EntryLine {
-        host: placed.host,
-        ordinal: placed.ordinal,
-        cid: placed.cid,
-        word: placed.command.word(),
-        status: reply.status,
-        result: reply.result,
-        bytes: reply.bytes.as_slice(),
+        host: entry.host,
+        ordinal: entry.ordinal,
+        cid: entry.cid,
+        word: entry.command.word(),
+        status: entry.reply.status,
+        result: entry.reply.result,
+        bytes: entry.reply.bytes.as_slice(),
     };
     let Ok(()) = push_entry(line, k, &entry) else {
         unreachable!("there is room for the longest line");
@@ -54,54 +53,49 @@ fn print_entry<K: Sink>(
     write_all(sink, line.as_slice())
 }
 
-// Writes the lines of commands and their replies.
-fn print_entries<K: Sink>(
-    sink: &mut K,
-    line: &mut Bytes,
-    placed: &[Placed],
-    replies: &[Reply],
-) -> Result<(), WriteFault>
+// Writes the lines of the commands that are over, in the order in which they ended.
+fn print_entries<K: Sink>(sink: &mut K, line: &mut Bytes, core: &Core) -> Result<(), WriteFault>
     requires room { HasRoom LONGEST_LINE line.old }
-    requires short { AreShort replies.now }
-    requires few { length placed.now < 2 ^ 32 }
-    requires answered { length placed.now ≡ length replies.now }
+    requires short { AreShort (world_in core.now).history }
     ensures room { HasRoom LONGEST_LINE line.new }
-    ensures all { OnOk result (Appends (K.held sink.old) (K.held sink.new) (concat (place_lines 1 (places_of placed.now) (map answer_of replies.now)))) }
-    ensures front { OnErr result (AppendsFront (K.held sink.old) (K.held sink.new) (concat (place_lines 1 (places_of placed.now) (map answer_of replies.now)))) }
+    ensures all { OnOk result (Appends (K.held sink.old) (K.held sink.new) (concat (ended_lines 1 (world_in core.now).history))) }
+    ensures front { OnErr result (AppendsFront (K.held sink.old) (K.held sink.new) (concat (ended_lines 1 (world_in core.now).history))) }
     ensures fault { OnErr result (Rose (K.faults sink.old) (K.faults sink.new)) }
     ensures later { K.faults sink.old ≤ K.faults sink.new }
 {
-    for index in 0..placed.len() {
-        print_entry(
-            sink,
-            line,
-            index as u32 + 1,
-            &placed[index],
-            &replies[index],
-        )?;
+    for k in 0..core.ended() {
+        let Some(entry) = core.entry(k) else {
+            unreachable!("the history goes so far");
+        };
+        print_entry(sink, line, k + 1, &entry)?;
     }
     Ok(())
 }
 
-// Writes the line of a show with its bytes.
+// Writes the line of a show with its bytes, which are gathered in a buffer of their own.
 fn print_show<K: Sink>(
     sink: &mut K,
     line: &mut Bytes,
-    device: &SeqDevice,
+    shown: &mut Bytes,
+    core: &Core,
     show: &Show,
 ) -> Result<(), WriteFault>
     requires room { HasRoom LONGEST_LINE line.old }
+    requires bytes { HasRoom MAX_TRANSFER shown.old }
     requires short { show.now.range.len ≤ MAX_TRANSFER }
-    requires inside { show.now.range.start + show.now.range.len ≤ unwrap_or (size_of device.now.config show.now.range.space) 0 }
+    requires inside { show.now.range.start + show.now.range.len ≤ unwrap_or (size_of core.now.config show.now.range.space) 0 }
+    requires home { IsAtHome core.now }
     ensures room { HasRoom LONGEST_LINE line.new }
-    ensures all { OnOk result (Appends (K.held sink.old) (K.held sink.new) (shown_text show.now (bytes_in device.now.state.contents show.now.range))) }
-    ensures front { OnErr result (AppendsFront (K.held sink.old) (K.held sink.new) (shown_text show.now (bytes_in device.now.state.contents show.now.range))) }
+    ensures bytes { HasRoom MAX_TRANSFER shown.new }
+    ensures all { OnOk result (Appends (K.held sink.old) (K.held sink.new) (shown_text show.now (bytes_in (world_in core.now).state.contents show.now.range))) }
+    ensures front { OnErr result (AppendsFront (K.held sink.old) (K.held sink.new) (shown_text show.now (bytes_in (world_in core.now).state.contents show.now.range))) }
     ensures fault { OnErr result (Rose (K.faults sink.old) (K.faults sink.new)) }
     ensures later { K.faults sink.old ≤ K.faults sink.new }
 {
     line.clear();
-    let bytes = device.slice(&show.range);
-    let Ok(()) = push_show(line, show, bytes) else {
+    shown.clear();
+    core.append(&show.range, shown);
+    let Ok(()) = push_show(line, show, shown.as_slice()) else {
         unreachable!("there is room for the longest line");
     };
     write_all(sink, line.as_slice())
@@ -111,35 +105,41 @@ fn print_show<K: Sink>(
 fn print_shows<K: Sink>(
     sink: &mut K,
     line: &mut Bytes,
-    device: &SeqDevice,
+    shown: &mut Bytes,
+    core: &Core,
     shows: &[Show],
 ) -> Result<(), WriteFault>
     requires room { HasRoom LONGEST_LINE line.old }
-    requires inside { AreInside device.now.config shows.now }
-    ensures all { OnOk result (Appends (K.held sink.old) (K.held sink.new) (concat (shown_lines device.now.state.contents shows.now))) }
-    ensures front { OnErr result (AppendsFront (K.held sink.old) (K.held sink.new) (concat (shown_lines device.now.state.contents shows.now))) }
+    requires bytes { HasRoom MAX_TRANSFER shown.old }
+    requires inside { AreInside core.now.config shows.now }
+    requires home { IsAtHome core.now }
+    ensures all { OnOk result (Appends (K.held sink.old) (K.held sink.new) (concat (shown_lines (world_in core.now).state.contents shows.now))) }
+    ensures front { OnErr result (AppendsFront (K.held sink.old) (K.held sink.new) (concat (shown_lines (world_in core.now).state.contents shows.now))) }
     ensures fault { OnErr result (Rose (K.faults sink.old) (K.faults sink.new)) }
     ensures later { K.faults sink.old ≤ K.faults sink.new }
 {
     for show in shows {
-        print_show(sink, line, device, show)?;
+        print_show(sink, line, shown, core, show)?;
     }
     Ok(())
 }
 
-/// Writes the line of each command, and then the line of each show.
+/// Writes the line of each command that is over, and then the line of each show.
 pub fn print<K: Sink>(sink: &mut K, finished: Finished, shows: &[Show]) -> Result<(), WriteFault>
-    requires fits { IsPrintable finished }
-    requires inside { AreInside finished.device.config shows.now }
-    ensures all { OnOk result (Appends (K.held sink.old) (K.held sink.new) (finished_text finished shows.now)) }
-    ensures front { OnErr result (AppendsFront (K.held sink.old) (K.held sink.new) (finished_text finished shows.now)) }
+    requires line { HasRoom LONGEST_LINE finished.line }
+    requires bytes { HasRoom MAX_TRANSFER finished.shown }
+    requires short { AreShort (world_in finished.core).history }
+    requires inside { AreInside finished.core.config shows.now }
+    requires home { IsAtHome finished.core }
+    ensures all { OnOk result (Appends (K.held sink.old) (K.held sink.new) (printed_text finished.core shows.now)) }
+    ensures front { OnErr result (AppendsFront (K.held sink.old) (K.held sink.new) (printed_text finished.core shows.now)) }
     ensures fault { OnErr result (Rose (K.faults sink.old) (K.faults sink.new)) }
     ensures later { K.faults sink.old ≤ K.faults sink.new }
 {
     let mut line = finished.line;
-    let placed = finished.placed.as_slice();
-    print_entries(sink, &mut line, placed, finished.replies.as_slice())?;
-    print_shows(sink, &mut line, &finished.device, shows)
+    let mut shown = finished.shown;
+    print_entries(sink, &mut line, &finished.core)?;
+    print_shows(sink, &mut line, &mut shown, &finished.core, shows)
 }
 
 // How many bytes the first line of a text has, with its newline.

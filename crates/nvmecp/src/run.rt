@@ -3,7 +3,7 @@ ghost use Rattle.std.specs.Prelude.{◌≡◌, ℕ, ◌≤◌, ◌⊎◌, ◌↔
 ghost use Rattle.std.specs.String.{string_bytes};
 ghost use Rattle.cp_io.specs.Counting.{Rose};
 ghost use Rattle.nvmecp.specs.Run.{Done, IsCutShort, IsRefused, NoFault};
-ghost use Rattle.nvmecp.specs.Words.{asked_of, task_of};
+ghost use Rattle.nvmecp.specs.Words.{HasWorkers, asked_of, task_of};
 ghost use Rattle.nvmecp.specs.declared.words.Asked.{Asked};
 
 use crate::ending::{NO_MEMORY, READ_FAULT, USAGE};
@@ -19,6 +19,7 @@ fn read_and_answer<S: Source, K: Sink>(
     source: &mut S,
     sink: &mut K,
 ) -> u8
+    requires { HasWorkers asked }
     ensures status { (result ≡ 0) ⊎ (result ≡ 2) ⊎ (result ≡ 3) ⊎ (result ≡ 4) ⊎ (result ≡ 5) }
     ensures done { result ≡ 0 → Done (task_of asked) S.left S.given K.held source.old source.new sink.old sink.new }
     ensures refused { result ≡ 2 → IsRefused (task_of asked) S.left S.given K.held source.old source.new sink.old sink.new }
@@ -46,8 +47,8 @@ pub fn run<S: Source, K: Sink>(alloc: Global, words: &[String], source: &mut S, 
     ensures usage { (result ≡ 1) ↔ (asked_of (map string_bytes words.now) ≡ None) }
     ensures untouched { result ≡ 1 → (source.new ≡ source.old) × (sink.new ≡ sink.old) }
 
-    // The headline: what was asked for is written. For `step` that is the text of a history that is legal
-    // for the plan of the script that was read.
+    // The headline: what was asked for is written. For `step` that is the text of a history that is legal for the plan
+    // of the script that was read, told by a trail of the schedule that the workers and the choices select.
     ensures done { result ≡ 0 → IfSome (asked_of (map string_bytes words.now)) (λ asked.
         Done (task_of asked) S.left S.given K.held source.old source.new sink.old sink.new) }
 

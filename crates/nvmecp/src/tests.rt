@@ -182,7 +182,7 @@ const CASES: [(&str, u8, &str); 35] = [
     ),
     // Aborts that come after what they name was carried out, and that name nothing.
     (
-        "nvmecp 1 block=512 depth=16 budget=1000\nmem 1 bytes=16\nphase\nhost 1\nsend 1 memfill ns=1 at=0 len=4 value=1\nsend 2 abort cid=1\nshow mem 1 at=0 len=4\n",
+        FILL_AND_ABORT,
         0,
         "#1 h1 n1 c1 memfill Ok r=0 d=\n#2 h1 n2 c2 abort Ok r=1 d=\nshow mem 1 at=0 len=4 d=01010101\n",
     ),
@@ -240,6 +240,36 @@ fn scripts_give_their_texts(rt: HostRuntime) {
             given(rt.alloc(), "step 1 0", input, output),
             Some((status, true)),
             "{input}"
+        );
+    }
+}
+
+// Two hosts fill bytes of which they share two.
+const TWO_FILLS: &str =
+    "nvmecp 1 block=512 depth=16 budget=1000\nmem 1 bytes=16\nphase\nhost 1\nsend 1 memfill ns=1 at=0 len=4 value=1\nhost 2\nsend 1 memfill ns=1 at=2 len=4 value=2\nshow mem 1 at=0 len=8\n";
+
+// A host fills and withdraws the fill.
+const FILL_AND_ABORT: &str =
+    "nvmecp 1 block=512 depth=16 budget=1000\nmem 1 bytes=16\nphase\nhost 1\nsend 1 memfill ns=1 at=0 len=4 value=1\nsend 2 abort cid=1\nshow mem 1 at=0 len=4\n";
+
+#[test]
+fn choices_select_the_history(rt: HostRuntime) {
+    let first =
+        "#1 h1 n1 c1 memfill Ok r=0 d=\n#2 h2 n1 c1 memfill Ok r=0 d=\nshow mem 1 at=0 len=8 d=0101020202020000\n";
+    let second =
+        "#1 h2 n1 c1 memfill Ok r=0 d=\n#2 h1 n1 c1 memfill Ok r=0 d=\nshow mem 1 at=0 len=8 d=0101010102020000\n";
+    let in_time =
+        "#1 h1 n2 c2 abort Ok r=0 d=\n#2 h1 n1 c1 memfill Aborted r=0 d=\nshow mem 1 at=0 len=4 d=00000000\n";
+    for (words, input, output) in [
+        ("step 2 0", TWO_FILLS, first),
+        ("step 2 1", TWO_FILLS, second),
+        ("step 1 1", TWO_FILLS, second),
+        ("step 1 2", FILL_AND_ABORT, in_time),
+    ] {
+        assert_eq!(rt;
+            given(rt.alloc(), words, input, output),
+            Some((0, true)),
+            "{words}"
         );
     }
 }
@@ -387,7 +417,7 @@ fn wrong_words_touch_nothing(rt: HostRuntime) {
         "step 1 18446744073709551616",
         "help",
         "",
-        "step 2 0",
+        "step 17 0",
         "serve 1",
         "make 0 0",
         "asm 1",

@@ -25,7 +25,7 @@ use Rattle.trail_model.proofs.Sound.{home-length}
 use Rattle.trail_model.proofs.Tables.{change-fits, still-bytes}
 
 -- a claim that is made in a state
-claim_in : Configuration → State → Command → OpenClaim
+abbrev claim_in : Configuration → State → Command → OpenClaim
 claim_in c s cmd = record {
   place = 0;
   party = 0;

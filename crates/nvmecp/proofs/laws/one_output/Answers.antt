@@ -1,4 +1,4 @@
-use Rattle.nvmecp.proofs.OneOutput.{assembled, disassembled, one_end, one_history, refused}
+use Rattle.nvmecp.proofs.OneOutput.{assembled, disassembled, one_end, one_history, one_schedule, refused}
 use Rattle.nvmecp.proofs.laws.one_output.Goals as goal
 
 pub returns-clause-assembled : goal.returns-clause-assembled
@@ -15,3 +15,6 @@ returns-clause-one_end c = one_end
 
 pub returns-clause-one_history : goal.returns-clause-one_history
 returns-clause-one_history c = one_history
+
+pub returns-clause-one_schedule : goal.returns-clause-one_schedule
+returns-clause-one_schedule c = one_schedule

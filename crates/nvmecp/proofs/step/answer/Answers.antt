@@ -9,13 +9,14 @@ use Rattle.script_plan.specs.declared.answer.PlanEnd.{PlanEnd}
 use Rattle.nvmecp.specs.Refusal.{refusal_line}
 use Rattle.nvmecp.specs.Step.{Faulty, IsHistory, TellsScript, Unplanned}
 use Rattle.nvmecp.proofs.Endings.{refused}
+use Rattle.nvmecp.proofs.Printed.{few_commands}
 use Rattle.nvmecp.proofs.step.answer.Goals as goal
 
 pub returns-in-Err-Fault-clause-ends : goal.returns-in-Err-Fault-clause-ends
 returns-in-Err-Fault-clause-ends g c =
     let input = c.args.input.now.items in
     let fault : ScriptFault = c.in-Err-Fault.fault in
-    refused (IsHistory input) (TellsScript input) (refusal_line fault.line c.cause_name.result.now) g.K.Sink.held g.K.Sink.faults c.args.sink.now c.refuse_line.new.sink c.refuse_line.result
+    refused (IsHistory c.args.workers c.args.choices input) (TellsScript input) (refusal_line fault.line c.cause_name.result.now) g.K.Sink.held g.K.Sink.faults c.args.sink.now c.refuse_line.new.sink c.refuse_line.result
     (Faulty fault (subst (λ (end : ParseEnd). Tells end (first_fault input)) c.in-Err-Fault.field-0-is c.in-Err-Fault.ensures.fault) (ap (refusal_line fault.line) c.cause_name.ensures))
     c.refuse_line.ensures
 
@@ -23,9 +24,13 @@ pub returns-in-Err-Fault-plan-clause-ends : goal.returns-in-Err-Fault-plan-claus
 returns-in-Err-Fault-plan-clause-ends g c =
     let input = c.args.input.now.items in
     let fault : PlanFault = told c.in-Err-Fault-plan.fault in
-    refused (IsHistory input) (TellsScript input) (refusal_line fault.line c.breach_name.result.now) g.K.Sink.held g.K.Sink.faults c.args.sink.now
+    refused (IsHistory c.args.workers c.args.choices input) (TellsScript input) (refusal_line fault.line c.breach_name.result.now) g.K.Sink.held g.K.Sink.faults c.args.sink.now
     c.refuse_line-in-Err-Fault-plan.new.sink c.refuse_line-in-Err-Fault-plan.result
     (Unplanned c.in-Ok.script fault c.in-Ok.ensures.accepted (record { sized = c.in-Ok.ensures.sized; read = c.in-Ok.ensures.text })
     (subst (λ (end : PlanEnd). ForFault end (λ f. plan_of c.in-Ok.script ≡ Err f)) c.in-Err-Fault-plan.field-0-is c.in-Err-Fault-plan.ensures.fault)
     (ap (refusal_line fault.line) c.breach_name.ensures))
     c.refuse_line-in-Err-Fault-plan.ensures
+
+pub carry_out-requires-clause-limited : goal.carry_out-requires-clause-limited
+carry_out-requires-clause-limited g c =
+    few_commands c.in-Ok.script c.in-Ok-plan.plan.phases c.in-Ok-plan.plan.commands c.in-Ok.ensures.order_and_limits c.in-Ok-plan.ensures.commands c.in-Ok-plan.ensures.sends

@@ -3,11 +3,19 @@ use Rattle.std.specs.Io.KnownBytes.{Appends}
 use Rattle.cp_base.specs.Configuration.{Configuration}
 use Rattle.cp_io.specs.Sink.{AppendsFront}
 use Rattle.script_cmds.specs.declared.item.Show.{Show}
-use Rattle.nvmecp.specs.Finished.{finished_text}
+use Rattle.nvmecp.specs.Finished.{printed_text}
 use Rattle.nvmecp.specs.Shown.{AreInside}
-use Rattle.nvmecp.proofs.Printed.{print_of}
+use Rattle.nvmecp.proofs.Printed.{at_home_of, print_of, short_of}
 use Rattle.nvmecp.proofs.Shows.{inside}
 use Rattle.nvmecp.proofs.step.carry_out.Goals as goal
+
+pub print-requires-clause-short : goal.print-requires-clause-short
+print-requires-clause-short g c =
+    short_of c.args.script.now c.args.plan.phases c.args.workers c.args.choices c.in-Ok.finished c.requires.sized c.requires.kept c.requires.sends c.in-Ok.ensures
+
+pub print-requires-clause-home : goal.print-requires-clause-home
+print-requires-clause-home g c =
+    at_home_of c.args.script.now.config c.args.plan.phases c.args.workers c.args.choices c.in-Ok.finished c.requires.rules c.in-Ok.ensures
 
 pub print-requires-clause-inside : goal.print-requires-clause-inside
 print-requires-clause-inside g c =
@@ -18,17 +26,17 @@ print-requires-clause-inside g c =
 
 pub returns-in-Ok-print-clause-ends : goal.returns-in-Ok-print-clause-ends
 returns-in-Ok-print-clause-ends g c = record {
-  text = finished_text c.in-Ok.finished c.args.script.now.shows;
-  due = print_of c.args.script.now c.args.plan.now.phases c.in-Ok.finished c.requires.sized c.requires.kept c.requires.planned c.requires.given c.in-Ok.ensures;
-  written = subst (λ (shows : List Show). Appends (g.K.Sink.held c.args.sink.now) (g.K.Sink.held c.print.new.sink) (finished_text c.in-Ok.finished shows)) c.as_slice.ensures c.in-Ok-print.ensures.all;
+  text = printed_text c.in-Ok.finished.core c.args.script.now.shows;
+  due = print_of c.args.script.now c.args.plan.phases c.args.workers c.args.choices c.in-Ok.finished c.requires.sized c.requires.kept c.requires.planned c.requires.given c.in-Ok.ensures;
+  written = subst (λ (shows : List Show). Appends (g.K.Sink.held c.args.sink.now) (g.K.Sink.held c.print.new.sink) (printed_text c.in-Ok.finished.core shows)) c.as_slice.ensures c.in-Ok-print.ensures.all;
 }
 
 pub returns-in-Err-print-clause-ends : goal.returns-in-Err-print-clause-ends
 returns-in-Err-print-clause-ends g c = (
   record {
-    text = finished_text c.in-Ok.finished c.args.script.now.shows;
-    due = inl (print_of c.args.script.now c.args.plan.now.phases c.in-Ok.finished c.requires.sized c.requires.kept c.requires.planned c.requires.given c.in-Ok.ensures);
-    front = subst (λ (shows : List Show). AppendsFront (g.K.Sink.held c.args.sink.now) (g.K.Sink.held c.print.new.sink) (finished_text c.in-Ok.finished shows)) c.as_slice.ensures c.in-Err-print.ensures.front;
+    text = printed_text c.in-Ok.finished.core c.args.script.now.shows;
+    due = inl (print_of c.args.script.now c.args.plan.phases c.args.workers c.args.choices c.in-Ok.finished c.requires.sized c.requires.kept c.requires.planned c.requires.given c.in-Ok.ensures);
+    front = subst (λ (shows : List Show). AppendsFront (g.K.Sink.held c.args.sink.now) (g.K.Sink.held c.print.new.sink) (printed_text c.in-Ok.finished.core shows)) c.as_slice.ensures c.in-Err-print.ensures.front;
   },
   c.in-Err-print.ensures.fault,
 )

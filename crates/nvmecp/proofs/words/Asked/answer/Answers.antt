@@ -1,6 +1,6 @@
-use Rattle.std.proofs.Common.{◌≡◌, sym, subst}
+use Rattle.std.proofs.Common.{◌≡◌, ◌≤◌, length, sym, subst}
 use Rattle.nvmecp.specs.Ends.{EndsBy}
-use Rattle.nvmecp.specs.Words.{task_of}
+use Rattle.nvmecp.specs.Words.{HasWorkers, task_of}
 use Rattle.nvmecp.specs.declared.ending.Ending.TheVariants as ending
 use Rattle.nvmecp.specs.declared.words.Asked.{Asked}
 use Rattle.nvmecp.proofs.words.Asked.answer.Goals as goal
@@ -27,3 +27,9 @@ returns-in-Dis-clause-ends g c =
 pub returns-in-Dis-clause-accepted : goal.returns-in-Dis-clause-accepted
 returns-in-Dis-clause-accepted g c =
     subst (λ (a : Asked). (task_of a).Accepts c.args.input.now.items → c.answer-in-Dis.result ≡ ending.Refused → ⊥) (sym c.in-Dis.is) c.answer-in-Dis.ensures.accepted
+
+pub answer-requires-clause-workers : goal.answer-requires-clause-workers
+answer-requires-clause-workers g c = subst HasWorkers c.in-Step.is c.requires.workers
+
+pub answer-requires-clause-within : goal.answer-requires-clause-within
+answer-requires-clause-within g c = subst (λ (a : Asked). length c.args.input.now.items ≤ (task_of a).limit) c.in-Step.is c.requires.within

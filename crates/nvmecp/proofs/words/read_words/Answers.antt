@@ -1,0 +1,7 @@
+use Rattle.std.proofs.Common.{map, sym}
+use Rattle.std.specs.String.{string_bytes}
+use Rattle.cp_line.proofs.Rows.{row_of}
+use Rattle.nvmecp.proofs.words.read_words.Goals as goal
+
+pub asked_by-requires : goal.asked_by-requires
+asked_by-requires c = (row_of (map string_bytes c.args.words.now) _ (sym c.in_ok-read_words.ensures)).1
