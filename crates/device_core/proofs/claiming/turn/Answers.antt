@@ -79,6 +79,8 @@ pub returns-then-is_empty-clause-turns : goal.returns-then-is_empty-clause-turns
 returns-then-is_empty-clause-turns c =
     let p = parts_of (length c.args.trail.now) c.args.keep.now in
     let stands = c.requires.held.1.stands in
-    let len : length c.args.keep.now.waiting.items ≡ 0 = grind (arith, c.is_empty.ensures, c.if-is_empty.true) in
-    (refl, sym stands.ties.at_rest ∙ c.if-keep.true,
-    none-queued c.args.config.now c.args.commands p (trail_of c.args.trail.now) stands (none-left c.args.keep.now.waiting.items len))
+    let len : length c.args.keep.now.waiting.items ≡ 0 = grind (arith, c.is_empty.ensures, c.if-is_empty.true) in (
+      refl,
+      sym stands.ties.at_rest ∙ c.if-keep.true,
+      none-queued c.args.config.now c.args.commands p (trail_of c.args.trail.now) stands (none-left c.args.keep.now.waiting.items len),
+    )
