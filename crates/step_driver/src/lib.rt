@@ -4,8 +4,6 @@
 mod part;
 mod running;
 mod steps;
-#[cfg(test)]
-mod tests;
 mod turns;
 
 pub use steps::run_steps;
