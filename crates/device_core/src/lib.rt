@@ -17,8 +17,6 @@ mod portions;
 mod preparing;
 mod queues;
 mod tables;
-#[cfg(test)]
-mod tests;
 mod working;
 
 pub use answers::{EntryRef, Picked};
