@@ -16,6 +16,7 @@ import signal
 import sys
 import tempfile
 import time
+from functools import partial
 from pathlib import Path
 
 from crates import PARTS, TOP, Crates, Tree, copy_sources, held, linked, lowest_first, moved
@@ -124,7 +125,7 @@ class Build:
         tasks = []
         for name in names:
             waits = tuple(it for it in self.crates.deps[name] if it in names)
-            tasks.append(Task(name, waits, heights[name], lambda jobs, name=name: self.build(name, jobs)))
+            tasks.append(Task(name, waits, heights[name], partial(self.build, name), self.crates.lines_of(name)))
         say(f"not built, or older than its sources: proving {len(names)} crates, {self.lanes.count} at a time")
         begun = []
 

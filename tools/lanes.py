@@ -18,13 +18,14 @@ MOST_JOBS = 4
 
 @dataclass
 class Task:
-    """Something to run: the tasks that have to be done before, how much work follows from it on, and the call, which is
-    given a number of jobs and answers a Ran."""
+    """Something to run: the tasks that have to be done before, how much work follows from it on, itself included, the
+    call, which is given a number of jobs and answers a Ran, and how much work it is itself."""
 
     name: str
     waits: Tuple[str, ...]
     height: int
     call: Callable
+    work: int = 0
 
 
 @dataclass
@@ -69,10 +70,16 @@ class Lanes:
         for child in list(self.running):
             end(child)
 
+    def jobs(self, task, share, left):
+        """How many jobs a task gets: its share of the idle processors, and more where what waits for it would else take
+        longer than all that is left on all processors."""
+        work = sum(it.work for it in left)
+        needed = -(-self.count * task.height // work) if work else 1
+        return max(1, min(self.most_jobs, max(share, needed)))
+
     def run(self, tasks, begun=lambda task: None, ended=lambda task, ran: None):
         """Runs tasks, those with the most work behind them first, and gives what each answered. Where one fails, those
-        that wait for it are left out, and so are all where `ended` says so by True. A task that nothing else waits
-        beside gets the idle processors as jobs."""
+        that wait for it are left out, and so are all where `ended` says so by True."""
         left, at_work, answers = sorted(tasks, key=lambda task: -task.height), {}, {}
         pool = ThreadPoolExecutor(self.count)
         try:
@@ -80,7 +87,7 @@ class Lanes:
                 ready = [task for task in left if all(name in answers and answers[name].is_well() for name in task.waits)]
                 idle = self.count - sum(jobs for _, jobs in at_work.values())
                 while ready and idle > 0:
-                    task, jobs = ready[0], max(1, min(self.most_jobs, idle // len(ready)))
+                    task, jobs = ready[0], self.jobs(ready[0], idle // len(ready), left)
                     begun(task)
                     at_work[pool.submit(task.call, jobs)] = task, jobs
                     left.remove(task)
