@@ -381,3 +381,26 @@ may-finish c commands events by place done has =
     let d : Recorded = record { config = c; commands = commands; trail = trail_of events } in
     weaker-and (λ (x : OpenClaim). HasWorked d by done x) (λ (x : OpenClaim). MayFinish c by (answer_of done.reply) x)
     (claim_at (world_of c (trail_of events)).claims place) (λ x h. record { own = h.own; told = h.worked.answer }) has
+
+-- What a party has done is told at the end of its claim, and what is kept then stands for the trail with it: where the claim
+-- was ended by the same events, as they were read.
+pub finish-told : (c : Configuration) (commands : ℕ) (events seen : List KeptEvent) (spots by place : ℕ) (old new : Keep) (done : Worked) → seen ≡ events
+    → Holds c commands events spots old → HasDone c commands events by place done
+    → ((d : Configuration) (most party : ℕ) (answer : Answer) → BringsHome d most seen old place done.pieces.items
+    → IsAllowedIn d most (world_of d (trail_of seen)) (event.Finish party place answer)
+    → StandFor d most (parts_of (length seen + 1) new) (trail_of seen ++ event.Finish party place answer ∷ []))
+    → StandFor c commands (parts_of (length events + 1) new) (trail_of events ++ event.Finish by place (answer_of done.reply) ∷ [])
+finish-told c commands events seen spots by place old new done same held has ended =
+    let answer : Answer = answer_of done.reply in
+    subst (λ (ts : List KeptEvent). StandFor c commands (parts_of (length ts + 1) new) (trail_of ts ++ event.Finish by place answer ∷ [])) same
+    (ended c commands by answer
+    (subst (λ (ts : List KeptEvent). BringsHome c commands ts old place done.pieces.items) (sym same) (brings c commands events spots by place old done held has))
+    (subst (λ (ts : List KeptEvent). IsAllowedIn c commands (world_of c (trail_of ts)) (event.Finish by place answer)) (sym same)
+    (may-finish c commands events by place done has)))
+
+-- the open claim that was found at its place is the one that ends
+pub claim-found : (claims : List ClaimPlaces) (k : Keep) (found : Option ClaimPlaces) (claim : ClaimPlaces) (events : List KeptEvent) (opened : OpenClaim) (place : ℕ)
+    (pieces home : List RegionBytes) (writes : List Region) → Closes events k opened place pieces home writes → claims ≡ k.claims.items
+    → found ≡ find (λ (x : ClaimPlaces). x.claim == place) claims → found ≡ Some claim → claim ≡ as_places opened
+claim-found claims k found claim events opened place pieces home writes closes same is there =
+    some-same claim (as_places opened) (sym there ∙ (is ∙ (ap (λ (xs : List ClaimPlaces). find (λ (x : ClaimPlaces). x.claim == place) xs) same ∙ closes.places)))

@@ -1,23 +1,13 @@
 -- Which commands may be picked, by what is kept.
-use Rattle.std.proofs.Common.{◌≡◌, ◌∙◌, ℕ, ◌==◌, Bool, true, false, not, ◌||◌, cond, List, [], ◌∷◌, find, map, Option, Some, None, option_map, unwrap_or, refl, sym, ap}
-use Rattle.std.specs.List.{AllByRecursion, list_any}
-use Rattle.cp_base.specs.Checks.{any_without_bytes}
-use Rattle.cp_base.specs.Configuration.{Configuration}
-use Rattle.cp_base.specs.Sets.{RangeSet, ranges_under}
-use Rattle.cp_base.specs.Sharing.{is_outside, range_region}
+use Rattle.std.proofs.Common.{◌≡◌, ◌∙◌, ℕ, Bool, true, false, not, ◌||◌, List, [], ◌∷◌, map, Option, Some, None, refl, sym, ap}
+use Rattle.std.specs.List.{list_any}
 use Rattle.cp_base.specs.Touching.{meets}
-use Rattle.cp_base.specs.declared.commands.Command.{Command}
-use Rattle.cp_base.specs.declared.commands.Command.TheVariants as command
-use Rattle.cp_base.specs.declared.lists.MemRange.{MemRange}
 use Rattle.cp_base.specs.declared.spans.Footprint.{Footprint}
-use Rattle.device_model.specs.State.{Slot}
 use Rattle.range_claims.specs.Kept.{is_held}
 use Rattle.range_claims.specs.declared.claims.Claim.{Claim}
 use Rattle.range_sets.proofs.Mapped.{any_mapped}
-use Rattle.trail_model.specs.Fits.{SetFits}
-use Rattle.trail_model.specs.Footprints.{execution_of}
 use Rattle.trail_model.specs.World.{is_number}
-use Rattle.core_model.specs.Parts.{KeptFootprint, tables_of}
+use Rattle.core_model.specs.Parts.{KeptFootprint}
 use Rattle.core_model.specs.Picking.{is_clear_of, is_set_kept, is_slot_kept}
 use Rattle.device_core.specs.Keep.{as_kept_footprint}
 
@@ -47,23 +37,3 @@ slot_kept claims slot =
 
 pub clear_kept : (claims : List Claim) (touched : Footprint) → not (list_any (λ (claim : Claim). meets touched claim.footprint) claims) ≡ is_clear_of (map as_kept_footprint claims) touched
 clear_kept claims touched = ap not (sym (any_mapped (λ (x : KeptFootprint). meets touched x.footprint) as_kept_footprint claims))
-
--- ---- the ranges that an execution runs on
-
--- ranges that have bytes and lie inside their namespaces
-abbrev pub LieInside : Configuration → List MemRange → Type 0
-LieInside c ranges = (any_without_bytes (map range_region ranges) ≡ false) × (list_any (is_outside c) (map range_region ranges) ≡ false)
-
-fit-ranges : (c : Configuration) (sets : List RangeSet) (n : ℕ) → AllByRecursion (SetFits c) sets → LieInside c (unwrap_or (ranges_under sets n) [])
-fit-ranges c [] n fits = (refl, refl)
-fit-ranges c (set ∷ sets) n fits = by_test (set.number == n) (fit-ranges c sets n fits.1)
-  where
-    by_test : (b : Bool) → LieInside c (unwrap_or (ranges_under sets n) [])
-        → LieInside c (unwrap_or (option_map (λ (x : RangeSet). x.ranges) (cond b (Some set) (find (λ (x : RangeSet). x.number == n) sets))) [])
-    by_test true later = (fits.0.some, fits.0.inside)
-    by_test false later = later
-
-pub execution_fits : (c : Configuration) (slots : List Slot) (sets : List RangeSet) (cmd : Command) → AllByRecursion (SetFits c) sets
-    → LieInside c (execution_of (tables_of slots sets) cmd).ranges
-execution_fits c slots sets (command.Execute slot set p1 p2 budget) fits = fit-ranges c sets set fits
-execution_fits c slots sets cmd fits = (refl, refl)

@@ -1,5 +1,5 @@
 // Which commands may be picked.
-ghost use Rattle.std.specs.Prelude.{◌≡◌, ◌≤◌, ◌||◌, ℕ, IfSome, IsTrue, [], false, is_none, is_some, length, map, not, option_copied, slice_get, unwrap_or};
+ghost use Rattle.std.specs.Prelude.{◌≡◌, ◌≤◌, ◌||◌, ℕ, IfSome, IsTrue, is_none, is_some, length, map, not, slice_get};
 ghost use Rattle.std.specs.List.{AllByRecursion};
 ghost use Rattle.cp_base.specs.Checks.{first_failing};
 ghost use Rattle.cp_base.specs.Sets.{ranges_under};
@@ -17,8 +17,9 @@ use crate::Event;
 use crate::asked::asked_in;
 use crate::checks::check_moving;
 use crate::keep::Keep;
+use crate::preparing::set_of;
 use core_model::WaitingSubmit;
-use cp_base::{Command, Config, Footprint, RangeList};
+use cp_base::{Command, Config, Footprint};
 use footprints::footprint;
 use program_slots::Slots;
 use range_claims::Claims;
@@ -61,30 +62,6 @@ fn may_deactivate(kept: &Claims, slots: &Slots, slot: u32) -> bool
     slots.code(slot).is_err() || !is_slot_held(kept, slot)
 }
 
-// The ranges that a command runs on: those of the set of an execution.
-fn ranges_for<'a>(slots: &Slots, sets: &'a Sets, command: &Command) -> Option<&'a RangeList>
-    ensures { unwrap_or (option_copied result) [] ≡ (execution_of (tables_of slots.now sets.now) command.now).ranges }
-{
-    match command {
-        Command::Execute { set, .. } => sets.get(*set),
-        Command::NvmRead { .. }
-        | Command::NvmWrite { .. }
-        | Command::NvmZeroes { .. }
-        | Command::NvmCopy { .. }
-        | Command::MemRead { .. }
-        | Command::MemWrite { .. }
-        | Command::MemFill { .. }
-        | Command::MemCopy { .. }
-        | Command::SetCreate { .. }
-        | Command::SetDelete { .. }
-        | Command::Load { .. }
-        | Command::Unload { .. }
-        | Command::Activate { .. }
-        | Command::Deactivate { .. }
-        | Command::Abort { .. } => None,
-    }
-}
-
 // Whether a command that passes its checks meets no open claim.
 fn is_clear(
     alloc: Global,
@@ -99,7 +76,7 @@ fn is_clear(
     ensures { result ≡ is_clear_of (map as_kept_footprint kept.now.kept)
         (footprint_of config.now (execution_of (tables_of slots.now sets.now) command.now).ranges command.now) }
 {
-    let touched = footprint(alloc, config, command, ranges_for(slots, sets, command));
+    let touched = footprint(alloc, config, command, set_of(sets, command));
     meets_none(kept, &touched)
 }
 

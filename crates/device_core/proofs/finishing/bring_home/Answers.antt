@@ -17,7 +17,7 @@ use Rattle.device_core.specs.Keep.{parts_of, queue_of}
 use Rattle.device_core.specs.Reading.{as_asked}
 use Rattle.device_core.specs.Recorded.{trail_of}
 use Rattle.device_core.specs.declared.asked.Wanted.{Wanted}
-use Rattle.device_core.proofs.Finished.{closed-stands, closes}
+use Rattle.device_core.proofs.Finished.{claim-found, closed-stands, closes}
 use Rattle.device_core.proofs.Stands.{few-events}
 use Rattle.device_core.proofs.finishing.bring_home.Goals as goal
 
@@ -40,9 +40,7 @@ pub unwrap-asked-requires : goal.unwrap-asked-requires
 unwrap-asked-requires c =
     let h = c.requires.2 in
     let x = closes c.requires.0 c.requires.1 c.args.trail.now c.args.keep.now c.args.place c.args.pieces.items h in
-    let found : c.claim_of.result ≡ Some (as_places h.claim) =
-    c.claim_of.ensures ∙ (ap (λ (claims : List ClaimPlaces). find (λ (y : ClaimPlaces). y.claim == c.args.place) claims) c.deref.ensures.value ∙ x.places) in
-    let is : c.unwrap-claim.result ≡ as_places h.claim = some-same c.unwrap-claim.result (as_places h.claim) (sym c.unwrap-claim.ensures ∙ found) in
+    let is = claim-found _ c.args.keep.now _ c.unwrap-claim.result c.args.trail.now h.claim c.args.place _ _ _ x c.deref.ensures.value c.claim_of.ensures c.unwrap-claim.ensures in
     some-mapped c.asked_in.result (asked_by_request h.claim.request)
     (c.asked_in.ensures ∙ (ap (λ (q : ClaimPlaces). asked_at (trail_of c.args.trail.now) q.sent) is ∙ x.asked))
 
@@ -56,18 +54,14 @@ pub end_claim-requires-clause-host : goal.end_claim-requires-clause-host
 end_claim-requires-clause-host c =
     let h = c.requires.2 in
     let x = closes c.requires.0 c.requires.1 c.args.trail.now c.args.keep.now c.args.place c.args.pieces.items h in
-    let found : c.claim_of.result ≡ Some (as_places h.claim) =
-    c.claim_of.ensures ∙ (ap (λ (claims : List ClaimPlaces). find (λ (y : ClaimPlaces). y.claim == c.args.place) claims) c.deref.ensures.value ∙ x.places) in
-    let is : c.unwrap-claim.result ≡ as_places h.claim = some-same c.unwrap-claim.result (as_places h.claim) (sym c.unwrap-claim.ensures ∙ found) in
+    let is = claim-found _ c.args.keep.now _ c.unwrap-claim.result c.args.trail.now h.claim c.args.place _ _ _ x c.deref.ensures.value c.claim_of.ensures c.unwrap-claim.ensures in
     subst (λ (q : ClaimPlaces). (1 ≤ q.host) × (q.host ≤ length c.args.keep.now.queues.items)) (sym is) x.host
 
 pub end_claim-requires-clause-claimed : goal.end_claim-requires-clause-claimed
 end_claim-requires-clause-claimed c =
     let h = c.requires.2 in
     let x = closes c.requires.0 c.requires.1 c.args.trail.now c.args.keep.now c.args.place c.args.pieces.items h in
-    let found : c.claim_of.result ≡ Some (as_places h.claim) =
-    c.claim_of.ensures ∙ (ap (λ (claims : List ClaimPlaces). find (λ (y : ClaimPlaces). y.claim == c.args.place) claims) c.deref.ensures.value ∙ x.places) in
-    let is : c.unwrap-claim.result ≡ as_places h.claim = some-same c.unwrap-claim.result (as_places h.claim) (sym c.unwrap-claim.ensures ∙ found) in
+    let is = claim-found _ c.args.keep.now _ c.unwrap-claim.result c.args.trail.now h.claim c.args.place _ _ _ x c.deref.ensures.value c.claim_of.ensures c.unwrap-claim.ensures in
     let asked : as_asked c.unwrap-asked.result ≡ asked_by_request h.claim.request =
     some-same (as_asked c.unwrap-asked.result) (asked_by_request h.claim.request)
     (sym (ap (λ (o : Option Wanted). option_map as_asked o) c.unwrap-asked.ensures)
@@ -81,9 +75,7 @@ pub end_claim-requires-clause-kept : goal.end_claim-requires-clause-kept
 end_claim-requires-clause-kept c =
     let h = c.requires.2 in
     let x = closes c.requires.0 c.requires.1 c.args.trail.now c.args.keep.now c.args.place c.args.pieces.items h in
-    let found : c.claim_of.result ≡ Some (as_places h.claim) =
-    c.claim_of.ensures ∙ (ap (λ (claims : List ClaimPlaces). find (λ (y : ClaimPlaces). y.claim == c.args.place) claims) c.deref.ensures.value ∙ x.places) in
-    let is : c.unwrap-claim.result ≡ as_places h.claim = some-same c.unwrap-claim.result (as_places h.claim) (sym c.unwrap-claim.ensures ∙ found) in
+    let is = claim-found _ c.args.keep.now _ c.unwrap-claim.result c.args.trail.now h.claim c.args.place _ _ _ x c.deref.ensures.value c.claim_of.ensures c.unwrap-claim.ensures in
     subst (λ (q : ClaimPlaces). is_kept c.args.keep.now.kept.kept q.claim ≡ true) (sym is) x.kept
 
 pub end_claim-requires-clause-room : goal.end_claim-requires-clause-room
@@ -94,9 +86,7 @@ pub end_claim-requires-clause-home : goal.end_claim-requires-clause-home
 end_claim-requires-clause-home c =
     let h = c.requires.2 in
     let x = closes c.requires.0 c.requires.1 c.args.trail.now c.args.keep.now c.args.place c.args.pieces.items h in
-    let found : c.claim_of.result ≡ Some (as_places h.claim) =
-    c.claim_of.ensures ∙ (ap (λ (claims : List ClaimPlaces). find (λ (y : ClaimPlaces). y.claim == c.args.place) claims) c.deref.ensures.value ∙ x.places) in
-    let is : c.unwrap-claim.result ≡ as_places h.claim = some-same c.unwrap-claim.result (as_places h.claim) (sym c.unwrap-claim.ensures ∙ found) in
+    let is = claim-found _ c.args.keep.now _ c.unwrap-claim.result c.args.trail.now h.claim c.args.place _ _ _ x c.deref.ensures.value c.claim_of.ensures c.unwrap-claim.ensures in
     subst (λ (q : ClaimPlaces). CanComeHome c.args.keep.now.store (homebound (writes_under c.args.keep.now.kept.kept q.claim) c.args.pieces.items)) (sym is)
     (subst (λ (ps : List RegionBytes). CanComeHome c.args.keep.now.store ps)
     (sym (ap (λ (ws : List Region). homebound ws c.args.pieces.items) x.runs ∙ x.goes)) x.can)
@@ -104,9 +94,7 @@ end_claim-requires-clause-home c =
 pub returns-clause-stands : goal.returns-clause-stands
 returns-clause-stands c config commands by answer h allowed =
     let x = closes config commands c.args.trail.now c.args.keep.now c.args.place c.args.pieces.items h in
-    let found : c.claim_of.result ≡ Some (as_places h.claim) =
-    c.claim_of.ensures ∙ (ap (λ (claims : List ClaimPlaces). find (λ (y : ClaimPlaces). y.claim == c.args.place) claims) c.deref.ensures.value ∙ x.places) in
-    let is : c.unwrap-claim.result ≡ as_places h.claim = some-same c.unwrap-claim.result (as_places h.claim) (sym c.unwrap-claim.ensures ∙ found) in
+    let is = claim-found _ c.args.keep.now _ c.unwrap-claim.result c.args.trail.now h.claim c.args.place _ _ _ x c.deref.ensures.value c.claim_of.ensures c.unwrap-claim.ensures in
     let apart : PlacesDiffer (queue_of c.args.keep.now.queues.items c.unwrap-claim.result.host) =
     subst (λ (q : ClaimPlaces). PlacesDiffer (queue_of c.args.keep.now.queues.items q.host)) (sym is) x.apart in
     closed-stands config commands by c.args.place answer c.args.trail.now c.args.keep.now c.end_claim.new.self c.args.pieces.items h allowed

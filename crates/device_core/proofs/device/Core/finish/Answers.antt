@@ -1,19 +1,17 @@
 -- A finish is added to the trail.
-use Rattle.std.proofs.Common.{◌+◌, ◌++◌, ◌∷◌, [], List, arith, length, subst, sym}
+use Rattle.std.proofs.Common.{List, arith, subst, sym}
 use Rattle.std.specs.Prelude.{IsSomeAnd}
 use Rattle.std.specs.Vec.{vec_capacity}
-use Rattle.cp_base.specs.Answer.{Answer, answer_of}
-use Rattle.trail_model.specs.Lawful.{IsAllowedIn, world_of}
+use Rattle.cp_base.specs.Answer.{answer_of}
+use Rattle.trail_model.specs.Lawful.{world_of}
 use Rattle.trail_model.specs.World.{OpenClaim, claim_at}
 use Rattle.trail_model.specs.declared.events.Event.TheVariants as event
-use Rattle.core_model.specs.Ties.{StandFor}
 use Rattle.device_core.specs.Gives.{HasWorked}
 use Rattle.device_core.specs.Homecoming.{BringsHome}
-use Rattle.device_core.specs.Keep.{parts_of}
-use Rattle.device_core.specs.Recorded.{Recorded, trail_of}
+use Rattle.device_core.specs.Recorded.{Recorded}
 use Rattle.device_core.specs.declared.events.Event.{Event as KeptEvent}
 use Rattle.device_core.specs.declared.events.Event.TheVariants as kept
-use Rattle.device_core.proofs.Finished.{brings, may-finish}
+use Rattle.device_core.proofs.Finished.{brings, finish-told}
 use Rattle.device_core.proofs.Stands.{held-now, lawful-now, spot-left}
 use Rattle.device_core.proofs.device.Core.finish.Goals as goal
 
@@ -31,14 +29,9 @@ push_reserved-requires c =
     let k = c.self.inside in
     let has = subst (λ (d : Recorded). IsSomeAnd (claim_at (world_of d.config d.trail).claims c.args.claim) (λ (x : OpenClaim). HasWorked d c.args.by c.args.worked x))
     (sym c.self.view_is) c.requires in
-    let there = subst (λ (ts : List KeptEvent). BringsHome k.config k.commands ts k.keep c.args.claim c.args.worked.pieces.items) (sym c.deref.ensures.value)
-    (brings k.config k.commands k.trail.items (vec_capacity k.trail) c.args.by c.args.claim k.keep c.args.worked c.self.invariant has) in
-    let answer : Answer = answer_of c.args.worked.reply in
-    let may = subst (λ (ts : List KeptEvent). IsAllowedIn k.config k.commands (world_of k.config (trail_of ts)) (event.Finish c.args.by c.args.claim answer)) (sym c.deref.ensures.value)
-    (may-finish k.config k.commands k.trail.items c.args.by c.args.claim c.args.worked has) in
-    let stands = subst (λ (ts : List KeptEvent). StandFor k.config k.commands (parts_of (length ts + 1) c.bring_home.new.keep) (trail_of ts ++ event.Finish c.args.by c.args.claim answer ∷ []))
-    c.deref.ensures.value (c.bring_home.ensures.stands k.config k.commands c.args.by answer there may) in
-    let left = spot-left k.config k.commands k.trail.items (event.Finish c.args.by c.args.claim answer) (vec_capacity k.trail) k.keep c.self.invariant stands.lawful in
+    let stands = finish-told k.config k.commands k.trail.items c.deref.result.now (vec_capacity k.trail) c.args.by c.args.claim k.keep c.bring_home.new.keep c.args.worked
+    c.deref.ensures.value c.self.invariant has c.bring_home.ensures.stands in
+    let left = spot-left k.config k.commands k.trail.items (event.Finish c.args.by c.args.claim (answer_of c.args.worked.reply)) (vec_capacity k.trail) k.keep c.self.invariant stands.lawful in
     omega arith
 
 pub invariant_of-self : goal.invariant_of-self
@@ -46,13 +39,8 @@ invariant_of-self c =
     let k = c.self.inside in
     let has = subst (λ (d : Recorded). IsSomeAnd (claim_at (world_of d.config d.trail).claims c.args.claim) (λ (x : OpenClaim). HasWorked d c.args.by c.args.worked x))
     (sym c.self.view_is) c.requires in
-    let there = subst (λ (ts : List KeptEvent). BringsHome k.config k.commands ts k.keep c.args.claim c.args.worked.pieces.items) (sym c.deref.ensures.value)
-    (brings k.config k.commands k.trail.items (vec_capacity k.trail) c.args.by c.args.claim k.keep c.args.worked c.self.invariant has) in
-    let answer : Answer = answer_of c.args.worked.reply in
-    let may = subst (λ (ts : List KeptEvent). IsAllowedIn k.config k.commands (world_of k.config (trail_of ts)) (event.Finish c.args.by c.args.claim answer)) (sym c.deref.ensures.value)
-    (may-finish k.config k.commands k.trail.items c.args.by c.args.claim c.args.worked has) in
-    let stands = subst (λ (ts : List KeptEvent). StandFor k.config k.commands (parts_of (length ts + 1) c.bring_home.new.keep) (trail_of ts ++ event.Finish c.args.by c.args.claim answer ∷ []))
-    c.deref.ensures.value (c.bring_home.ensures.stands k.config k.commands c.args.by answer there may) in
+    let stands = finish-told k.config k.commands k.trail.items c.deref.result.now (vec_capacity k.trail) c.args.by c.args.claim k.keep c.bring_home.new.keep c.args.worked
+    c.deref.ensures.value c.self.invariant has c.bring_home.ensures.stands in
     held-now k.config k.commands k.trail.items (kept.Finish c.args.by c.args.claim c.args.worked.reply) (vec_capacity k.trail) k.keep c.bring_home.new.keep _ _
     c.self.invariant stands c.bring_home.ensures.room c.push_reserved.ensures.items c.push_reserved.ensures.capacity
 
@@ -61,11 +49,6 @@ returns-clause-lawful c =
     let k = c.self.inside in
     let has = subst (λ (d : Recorded). IsSomeAnd (claim_at (world_of d.config d.trail).claims c.args.claim) (λ (x : OpenClaim). HasWorked d c.args.by c.args.worked x))
     (sym c.self.view_is) c.requires in
-    let there = subst (λ (ts : List KeptEvent). BringsHome k.config k.commands ts k.keep c.args.claim c.args.worked.pieces.items) (sym c.deref.ensures.value)
-    (brings k.config k.commands k.trail.items (vec_capacity k.trail) c.args.by c.args.claim k.keep c.args.worked c.self.invariant has) in
-    let answer : Answer = answer_of c.args.worked.reply in
-    let may = subst (λ (ts : List KeptEvent). IsAllowedIn k.config k.commands (world_of k.config (trail_of ts)) (event.Finish c.args.by c.args.claim answer)) (sym c.deref.ensures.value)
-    (may-finish k.config k.commands k.trail.items c.args.by c.args.claim c.args.worked has) in
-    let stands = subst (λ (ts : List KeptEvent). StandFor k.config k.commands (parts_of (length ts + 1) c.bring_home.new.keep) (trail_of ts ++ event.Finish c.args.by c.args.claim answer ∷ []))
-    c.deref.ensures.value (c.bring_home.ensures.stands k.config k.commands c.args.by answer there may) in
+    let stands = finish-told k.config k.commands k.trail.items c.deref.result.now (vec_capacity k.trail) c.args.by c.args.claim k.keep c.bring_home.new.keep c.args.worked
+    c.deref.ensures.value c.self.invariant has c.bring_home.ensures.stands in
     lawful-now k.config k.commands k.trail.items (kept.Finish c.args.by c.args.claim c.args.worked.reply) c.bring_home.new.keep _ stands c.push_reserved.ensures.items
