@@ -1,0 +1,4 @@
+pub mod Knowing
+pub mod Coming
+pub mod Entering
+pub mod Turning
