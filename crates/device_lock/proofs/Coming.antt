@@ -24,9 +24,12 @@ pub record Leaves (t : Turn Kept Event Fixed) (k : Kept) (q : DevicePass) : Type
   pub made : MadeInTurn (seen_in t) k.core.trail (made_in t) (made_by q)
   pub lost : lost_by q ≡ lost_in t
 
--- a lawful trail is short
+-- a lawful trail has at most five events for each command, and one more
+pub few-events : (k : Kept) → length k.core.trail ≤ 5 * MAX_COMMANDS + 1
+few-events k = let most = bounded k.core.config k.core.commands k.core.trail k.lawful in let few = k.few in omega arith
+
 pub kept-short : (k : Kept) → length k.core.trail < 2 ^ 32
-kept-short k = let most = bounded k.core.config k.core.commands k.core.trail k.lawful in let few = k.few in omega arith
+kept-short k = let few = few-events k in omega arith
 
 -- a pass that made the same is as idle
 pub same-idle : (p q : DevicePass) → made_by q ≡ made_by p → IsIdle p → IsIdle q
@@ -43,15 +46,15 @@ came-alone d p q t k turn core left =
     let party : party_of q ≡ party_of p = left.party ∙ turn.party in
     record {
       back = record {
-          of_device = record {
-              lock = subst (λ (l : LockName Fixed). IsPassOf party_of_event l q) turn.lock left.pass;
-              party = subst (λ (n : ℕ). IsParty n) (sym party) turn.of_device.party;
-              lawful = subst (λ (s : Trail). IsLawful d.config d.commands s) (sym seen) lawful;
-            };
-          party = party;
-          seen = (turn.fits.0.0, seen ∙ turn.fits.0.1);
-          lost = (turn.lost.0, left.lost ∙ turn.lost.1);
+        of_device = record {
+          lock = subst (λ (l : LockName Fixed). IsPassOf party_of_event l q) turn.lock left.pass;
+          party = subst (λ (n : ℕ). IsParty n) (sym party) turn.of_device.party;
+          lawful = subst (λ (s : Trail). IsLawful d.config d.commands s) (sym seen) lawful;
         };
+        party = party;
+        seen = (turn.fits.0.0, seen ∙ turn.fits.0.1);
+        lost = (turn.lost.0, left.lost ∙ turn.lost.1);
+      };
       fits = subst (λ (s : Trail). FitsTrail party_of_event (party_of p) (seen_by p) (made_by p) s) (sym seen) turn.fits;
       made = left.made.none trail ∙ turn.made;
       idle = same-idle p q (left.made.none trail ∙ turn.made);
@@ -68,15 +71,15 @@ came-with d p q t k e turn core left =
     let party : party_of q ≡ party_of p = left.party ∙ turn.party in
     record {
       back = record {
-          of_device = record {
-              lock = subst (λ (l : LockName Fixed). IsPassOf party_of_event l q) turn.lock left.pass;
-              party = subst (λ (n : ℕ). IsParty n) (sym party) turn.of_device.party;
-              lawful = subst (λ (s : Trail). IsLawful d.config d.commands s) (sym seen) lawful;
-            };
-          party = party;
-          seen = (turn.fits.0.0 ++ e ∷ [], seen ∙ (ap (λ (s : Trail). s ++ e ∷ []) turn.fits.0.1 ∙ append_assoc (seen_by p) turn.fits.0.0 (e ∷ [])));
-          lost = (turn.lost.0, left.lost ∙ turn.lost.1);
+        of_device = record {
+          lock = subst (λ (l : LockName Fixed). IsPassOf party_of_event l q) turn.lock left.pass;
+          party = subst (λ (n : ℕ). IsParty n) (sym party) turn.of_device.party;
+          lawful = subst (λ (s : Trail). IsLawful d.config d.commands s) (sym seen) lawful;
         };
+        party = party;
+        seen = (turn.fits.0.0 ++ e ∷ [], seen ∙ (ap (λ (s : Trail). s ++ e ∷ []) turn.fits.0.1 ∙ append_assoc (seen_by p) turn.fits.0.0 (e ∷ [])));
+        lost = (turn.lost.0, left.lost ∙ turn.lost.1);
+      };
       fits = turn.fits;
       seen = seen;
       made = left.made.one e trail ∙ ap (λ (m : Trail). m ++ e ∷ []) turn.made;
@@ -101,7 +104,7 @@ adds-none d t k core = inl (ap (λ (r : Recorded). r.trail) core)
 
 pub adds-one : (d : DeviceName) (p : DevicePass) (t : Turn Kept Event Fixed) (k : Kept) (e : Event) → IsTurnOf d p t → k.core ≡ recorded_with d (seen_in t ++ e ∷ [])
     → party_of_event e ≡ party_of p → AddsAtMostOne party_of_event (party_in t) (seen_in t) k.core.trail
-adds-one d p t k e turn core own = inr (e, (ap (λ (r : Recorded). r.trail) core, own ∙ sym turn.party))
+adds-one d p t k e turn core own = inr (e, ap (λ (r : Recorded). r.trail) core, own ∙ sym turn.party)
 
 -- the trail before the turn is lawful
 pub lawful-before : (d : DeviceName) (p : DevicePass) (t : Turn Kept Event Fixed) → IsTurnOf d p t → IsLawful d.config d.commands (seen_in t)

@@ -21,6 +21,14 @@ pub same-lock : (d : DeviceName) (first : Recorded) (held : CachePadded (SeatLoc
     → held_lock held ≡ lock_of_device (device_named first held) → device_named first held ≡ d → lock ≡ padded_value held → lock_of fixed_in lock ≡ lock_of_device d
 same-lock d first held lock holds named found = ap (λ (l : SeatLock Kept Event Fixed). lock_of fixed_in l) found ∙ (holds ∙ ap lock_of_device named)
 
+-- the lock of a value with this core is the one that the name of the device tells
+pub new-lock : (first : Recorded) (held : CachePadded (SeatLock Kept Event Fixed)) (lock : SeatLock Kept Event Fixed) (k : Kept) → padded_value held ≡ lock
+    → (lock_of fixed_in lock).fixed ≡ Some (fixed_in k) → k.core ≡ first → lock_of fixed_in lock ≡ lock_of_device (device_named first held)
+new-lock first held lock k pad fixed core =
+    let same : (lock_of fixed_in lock).fixed ≡ (lock_of_device (device_named first held)).fixed =
+    fixed ∙ ap (λ (r : Recorded). Some (let f : Fixed = record { config = r.config; commands = r.commands } in f)) core in
+    λ i. record { table = (lock_of fixed_in (sym pad i)).table; fixed = same i; seats = (lock_of fixed_in (sym pad i)).seats }
+
 -- a value with the fixed part of a device and this trail has the device's core
 pub core-is : (d : DeviceName) (k : Kept) (trail : Trail) → Some (fixed_in k) ≡ (lock_of_device d).fixed → k.core.trail ≡ trail → k.core ≡ recorded_with d trail
 core-is d k trail fixed is =

@@ -63,15 +63,16 @@ idle-there d p trail lawful fits idle =
 
 found-at : (claims : List OpenClaim) (party : ℕ) (claim : OpenClaim) → EachTwo AreDifferent claims → claim_by claims party ≡ Some claim → claim_at claims claim.place ≡ Some claim
 found-at [] party claim differ e = absurd (none-some claim e)
-found-at (first ∷ claims) party claim differ e = by_test (first.party == party) e
+found-at (first ∷ claims) party claim differ e = by_test (first.party == party) e (λ later. found-at claims party claim differ.1 later)
   where
-    by_test : (b : Bool) → cond b (Some first) (claim_by claims party) ≡ Some claim → cond (first.place == claim.place) (Some first) (claim_at claims claim.place) ≡ Some claim
-    by_test true e =
+    by_test : (b : Bool) → cond b (Some first) (claim_by claims party) ≡ Some claim → (claim_by claims party ≡ Some claim → claim_at claims claim.place ≡ Some claim)
+        → cond (first.place == claim.place) (Some first) (claim_at claims claim.place) ≡ Some claim
+    by_test true e later =
         let same : first ≡ claim = some-same first claim e in
         ap (λ (b : Bool). cond b (Some first) (claim_at claims claim.place)) (same-eqb first.place claim.place (ap (λ (y : OpenClaim). y.place) same)) ∙ ap (λ (y : OpenClaim). Some y) same
-    by_test false e =
+    by_test false e later =
         let apart : AreDifferent first claim = found-each (AreDifferent first) _ claims claim differ.0 e in
-        ap (λ (b : Bool). cond b (Some first) (claim_at claims claim.place)) (other-eqb first.place claim.place apart.places) ∙ found-at claims party claim differ.1 e
+        ap (λ (b : Bool). cond b (Some first) (claim_at claims claim.place)) (other-eqb first.place claim.place apart.places) ∙ later e
 
 -- a claim of a pass in a trail that it fits
 pub record IsOpenThere (c : Configuration) (trail : Trail) (party place : ℕ) (claim : OpenClaim) : Type 0 where

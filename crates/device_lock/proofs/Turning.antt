@@ -78,21 +78,9 @@ module _ (d : DeviceName) (p q : DevicePass) (t : Turn Kept Event Fixed) (k : Ke
         idle = idle-with d p q (seen_in t) e back (λ a h. h);
       }
 
-  pub refused : (by cid : ℕ) (cause : SendCause) → by ≡ party_of p
-      → submit_cause (value_in t).core.config (value_in t).core.commands (world_in (value_in t).core) by cid ≡ Some cause
-      → k.core ≡ (value_in t).core → Leaves t k q → IsRefused d p cid q cause
-  refused by cid cause own is same left =
-      let core : k.core ≡ recorded_with d (seen_in t) = same ∙ turn.core in
-      record {
-        turn = came-alone d p q t k turn core left;
-        cause_is = subst (λ (s : Trail). submit_cause d.config d.commands (world_of d.config s) (party_of p) cid ≡ Some cause) (seen-alone core left)
-            (subst (λ (n : ℕ). submit_cause d.config d.commands (world_of d.config (seen_in t)) n cid ≡ Some cause) own
-            (subst (λ (r : Recorded). submit_cause r.config r.commands (world_in r) by cid ≡ Some cause) turn.core is));
-      }
-
   -- ---- takes
 
-  answer-before : (by cid : ℕ) (answer : Result ℕ TakeCause) → by ≡ party_of p → answer ≡ take_answer (world_in (value_in t).core) by cid
+  pub answer-before : (by cid : ℕ) (answer : Result ℕ TakeCause) → by ≡ party_of p → answer ≡ take_answer (world_in (value_in t).core) by cid
       → take_answer (world_of d.config (seen_in t)) (party_of p) cid ≡ answer
   answer-before by cid answer own is = sym (is ∙ (λ i. take_answer (world_in (turn.core i)) (own i) cid))
 
@@ -116,15 +104,6 @@ module _ (d : DeviceName) (p q : DevicePass) (t : Turn Kept Event Fixed) (k : Ke
         idle = idle-with d p q (seen_in t) e back (λ a h. h);
       }
 
-  pub has-none : (by cid : ℕ) (cause : TakeCause) → by ≡ party_of p → Err cause ≡ take_answer (world_in (value_in t).core) by cid → k.core ≡ (value_in t).core → Leaves t k q
-      → HasNone d p cid q cause
-  has-none by cid cause own is same left =
-      let core : k.core ≡ recorded_with d (seen_in t) = same ∙ turn.core in
-      record {
-        turn = came-alone d p q t k turn core left;
-        cause_is = subst (λ (s : Trail). take_answer (world_of d.config s) (party_of p) cid ≡ Err cause) (seen-alone core left) (answer-before by cid (Err cause) own is);
-      }
-
   -- ---- claims
 
   -- an idle party's turn to the first command that may be picked, as the core gives it
@@ -132,11 +111,16 @@ module _ (d : DeviceName) (p q : DevicePass) (t : Turn Kept Event Fixed) (k : Ke
   given-before by g own gives =
       subst (λ (n : ℕ). GivesFirst (recorded_with d (seen_in t)) n g k.core) own (subst (λ (r : Recorded). GivesFirst r by g k.core) turn.core gives)
 
+  -- the pass has no open claim when it gets the turn
+  pub idle-now : (by : ℕ) → by ≡ party_of p → IsIdle p → is_idle (world_in (value_in t).core) by ≡ true
+  idle-now by own idle =
+      (λ i. is_idle (world_in (turn.core i)) (own i)) ∙ idle-there d p (seen_in t) (lawful-before d p t turn) turn.fits idle
+
   claimed-now : (work : Work) (claim host ordinal : ℕ) (j : Job) → GivesFirst (recorded_with d (seen_in t)) (party_of p) (given.Claimed work claim host ordinal) k.core
       → Leaves t k (Rattle.device_lock.specs.Jobs.pass_of_job j) → Rattle.device_lock.specs.Jobs.place_of_job j ≡ claim → Rattle.device_lock.specs.Jobs.host_of_job j ≡ host
       → Rattle.device_lock.specs.Jobs.ordinal_of_job j ≡ ordinal → Rattle.device_lock.specs.Jobs.work_of_job j ≡ work → IsIdle p → IsClaimed d p j
   claimed-now work claim host ordinal j gives left at of_host of_ordinal has idle =
-      let found = some-and _ _ gives.1 in
+      let found = some-and (λ (s : Submission). Claims (recorded_with d (seen_in t)) k.core (party_of p) s work × (s.request.host ≡ host) × (s.request.ordinal ≡ ordinal)) (slice_get (pickable_among d.config (world_of d.config (seen_in t))) 0) gives.1 in
       let s : Submission = found.0 in
       let w : World = world_of d.config (seen_in t) in
       let r : DevicePass = Rattle.device_lock.specs.Jobs.pass_of_job j in
@@ -152,17 +136,17 @@ module _ (d : DeviceName) (p q : DevicePass) (t : Turn Kept Event Fixed) (k : Ke
         picked = found.1;
         turn = back;
         job = record {
-            claims = record {
-                of_device = back.back.of_device;
-                last = (made_by p, back.made ∙ (λ i. made_by p ++ event.Claim (sym back.back.party i) s.request.host s.request.ordinal s.request.place ∷ []));
-                opened = subst (λ (n : ℕ). claim_by (world_of d.config (seen_by r)).claims n ≡ Some new) (sym back.back.party)
-                    (subst (λ (trail : Trail). claim_by (world_of d.config trail).claims (party_of p) ≡ Some new) (sym back.seen) made);
-                at_place = count-world d.config (seen_in t) ∙ (sym gives.0 ∙ sym at);
-              };
-            host = of_host ∙ sym found.2.1.0;
-            ordinal = of_ordinal ∙ sym found.2.1.1;
-            work = subst (λ (x : Work). Rattle.device_core.specs.Gives.IsWorkOf d.config new x) (sym has) found.2.0.claimed;
+          claims = record {
+            of_device = back.back.of_device;
+            last = (made_by p, back.made ∙ (λ i. made_by p ++ event.Claim (sym back.back.party i) s.request.host s.request.ordinal s.request.place ∷ []));
+            opened = subst (λ (n : ℕ). claim_by (world_of d.config (seen_by r)).claims n ≡ Some new) (sym back.back.party)
+                (subst (λ (trail : Trail). claim_by (world_of d.config trail).claims (party_of p) ≡ Some new) (sym back.seen) made);
+            at_place = count-world d.config (seen_in t) ∙ (sym gives.0 ∙ sym at);
           };
+          host = of_host ∙ sym found.2.1;
+          ordinal = of_ordinal ∙ sym found.2.2;
+          work = subst (λ (x : Work). Rattle.device_core.specs.Gives.IsWorkOf d.config new x) (sym has) found.2.0.claimed;
+        };
       }
 
   pub claimed : (by : ℕ) (work : Work) (claim host ordinal : ℕ) (j : Job) → by ≡ party_of p → GivesFirst (value_in t).core by (given.Claimed work claim host ordinal) k.core
@@ -172,7 +156,7 @@ module _ (d : DeviceName) (p q : DevicePass) (t : Turn Kept Event Fixed) (k : Ke
 
   pub did : (by : ℕ) → by ≡ party_of p → GivesFirst (value_in t).core by given.Did k.core → Leaves t k q → IsDone d p q
   did by own gives left =
-      let found = some-and _ _ (given-before by given.Did own gives) in
+      let found = some-and (λ (s : Submission). Does (recorded_with d (seen_in t)) k.core (party_of p) s) (slice_get (pickable_among d.config (world_of d.config (seen_in t))) 0) (given-before by given.Did own gives) in
       let s : Submission = found.0 in
       let w : World = world_of d.config (seen_in t) in
       let e : Event = event.Do (party_of p) s.request.host s.request.ordinal s.request.place found.2.answer (withdrawn_place w.submits s.request) in
@@ -186,39 +170,15 @@ module _ (d : DeviceName) (p q : DevicePass) (t : Turn Kept Event Fixed) (k : Ke
         idle = idle-with d p q (seen_in t) e back (λ a h. h);
       }
 
-  pub nothing : (by : ℕ) → by ≡ party_of p → GivesFirst (value_in t).core by given.Nothing k.core → Leaves t k q → FindsNothing d p q
-  nothing by own gives left =
-      let now = given-before by given.Nothing own gives in
-      let back = came-alone d p q t k turn now.0 left in
-      let seen = seen-alone now.0 left in
-      record {
-        turn = back;
-        none = subst (λ (s : Trail). pickable_among d.config (world_of d.config s) ≡ []) seen (none-few (pickable_among d.config (world_of d.config (seen_in t))) now.1.0);
-        unrested = subst (λ (s : Trail). (world_of d.config s).at_rest ≡ true → queued_among (world_of d.config s).submits ≡ [] → ⊥) seen now.1.1;
-      }
-    where
-      none-few : {A : Type 0} (xs : List A) → length xs ≤ 0 → xs ≡ []
-      none-few [] h = refl
-      none-few (x ∷ xs) h = absurd (omega arith)
-
-  pub rested : (by : ℕ) → by ≡ party_of p → GivesFirst (value_in t).core by given.Rested k.core → Leaves t k q → FindsRest d p q
-  rested by own gives left =
-      let now = given-before by given.Rested own gives in
-      let back = came-alone d p q t k turn now.0 left in
-      let seen = seen-alone now.0 left in
-      record {
-        turn = back;
-        at_rest = subst (λ (s : Trail). IsTrue (world_of d.config s).at_rest) seen now.1.0;
-        none = subst (λ (s : Trail). queued_among (world_of d.config s).submits ≡ []) seen now.1.1;
-      }
-
   pub given-adds : (by : ℕ) (g : Given) → by ≡ party_of p → GivesFirst (value_in t).core by g k.core → AddsAtMostOne party_of_event (party_in t) (seen_in t) k.core.trail
   given-adds by (given.Claimed work claim host ordinal) own gives =
-      let found = some-and _ _ (given-before by (given.Claimed work claim host ordinal) own gives).1 in
-      adds-one d p t k (event.Claim (party_of p) found.0.request.host found.0.request.ordinal found.0.request.place) turn found.2.0.event refl
+      let found = some-and (λ (s : Submission). Claims (recorded_with d (seen_in t)) k.core (party_of p) s work × (s.request.host ≡ host) × (s.request.ordinal ≡ ordinal)) (slice_get (pickable_among d.config (world_of d.config (seen_in t))) 0) (given-before by (given.Claimed work claim host ordinal) own gives).1 in
+      let s : Submission = found.0 in
+      adds-one d p t k (event.Claim (party_of p) s.request.host s.request.ordinal s.request.place) turn found.2.0.event refl
   given-adds by given.Did own gives =
-      let found = some-and _ _ (given-before by given.Did own gives) in
-      adds-one d p t k (event.Do (party_of p) found.0.request.host found.0.request.ordinal found.0.request.place found.2.answer (withdrawn_place (world_of d.config (seen_in t)).submits found.0.request))
+      let found = some-and (λ (s : Submission). Does (recorded_with d (seen_in t)) k.core (party_of p) s) (slice_get (pickable_among d.config (world_of d.config (seen_in t))) 0) (given-before by given.Did own gives) in
+      let s : Submission = found.0 in
+      adds-one d p t k (event.Do (party_of p) s.request.host s.request.ordinal s.request.place found.2.answer (withdrawn_place (world_of d.config (seen_in t)).submits s.request))
       turn found.2.event refl
   given-adds by given.Nothing own gives = adds-none d t k (given-before by given.Nothing own gives).0
   given-adds by given.Rested own gives = adds-none d t k (given-before by given.Rested own gives).0
@@ -234,15 +194,6 @@ module _ (d : DeviceName) (p q : DevicePass) (t : Turn Kept Event Fixed) (k : Ke
   rest-event : (by : ℕ) → by ≡ party_of p → k.core ≡ (if (world_in (value_in t).core).at_rest then (value_in t).core else with_event (value_in t).core (event.Rest by))
       → k.core ≡ (if (world_of d.config (seen_in t)).at_rest then recorded_with d (seen_in t) else recorded_with d (seen_in t ++ event.Rest (party_of p) ∷ []))
   rest-event by own rests = rests ∙ (λ i. if (world_in (turn.core i)).at_rest then turn.core i else with_event (turn.core i) (event.Rest (own i)))
-
-  pub rest-adds : (by : ℕ) → by ≡ party_of p → k.core ≡ (if (world_in (value_in t).core).at_rest then (value_in t).core else with_event (value_in t).core (event.Rest by))
-      → AddsAtMostOne party_of_event (party_in t) (seen_in t) k.core.trail
-  rest-adds by own rests = by_rest (world_of d.config (seen_in t)).at_rest (rest-event by own rests)
-    where
-      by_rest : (b : Bool) → k.core ≡ (if b then recorded_with d (seen_in t) else recorded_with d (seen_in t ++ event.Rest (party_of p) ∷ []))
-          → AddsAtMostOne party_of_event (party_in t) (seen_in t) k.core.trail
-      by_rest true core = adds-none d t k core
-      by_rest false core = adds-one d p t k (event.Rest (party_of p)) turn core refl
 
   pub rested-by : (by : ℕ) → by ≡ party_of p → k.core ≡ (if (world_in (value_in t).core).at_rest then (value_in t).core else with_event (value_in t).core (event.Rest by))
       → Leaves t k q → IsAtRest d p q

@@ -69,3 +69,7 @@ pub record IsBackBusy (d : DeviceName) (p q : DevicePass) (word : ℕ) : Type 0 
   pub lost : lost_by q ≡ lost_by p ++ word ∷ []
   pub some : word ≢ 0
   pub other : word ≢ party_of p
+
+-- all passes that are at home are idle
+abbrev pub AreIdle : DevicePasses → Type 0
+AreIdle ps = (n : ℕ) (p : DevicePass) → at_home ps n ≡ Some p → IsIdle p

@@ -9,7 +9,10 @@ use std::sync::Arc;
 #[derive(Drop)]
 pub enum Sent {
     /// It is submitted, at place `place` of the trail.
-    Placed { pass: Pass, place: u32 },
+    Placed {
+        pass: Pass,
+        place: u32,
+    },
     /// It is not, and is handed back.
     Refused {
         pass: Pass,

@@ -4,7 +4,7 @@ ghost use Rattle.cp_base.specs.declared.limits.TheConstants.{MAX_COMMANDS, MAX_H
 ghost use Rattle.seat_lock.specs.Passes.{HaveMet, at_home, lost_by, made_by, seats_in, seen_by};
 ghost use Rattle.seat_lock.specs.Trails.{BeginsWith, FitsTrail};
 ghost use Rattle.trail_model.specs.Lawful.{IsLawful, party_of_event};
-ghost use Rattle.device_lock.specs.Passes.{AreAllOfDevice, IsBackBusy, IsOfDevice};
+ghost use Rattle.device_lock.specs.Passes.{AreAllOfDevice, AreIdle, IsBackBusy, IsOfDevice};
 ghost use Rattle.device_lock.specs.Turns.{IsTurnOf};
 
 use crate::kept::{Fixed, Kept};
@@ -51,6 +51,7 @@ impl Device {
         ensures device { IfOk result (λ r. (r.0.config ≡ core.config) × (r.0.commands ≡ core.commands)) }
         ensures seats { IfOk result (λ r. seats_in r.1 ≡ MAX_HOSTS + workers) }
         ensures all { IfOk result (λ r. AreAllOfDevice r.0 r.1) }
+        ensures idle { IfOk result (λ r. AreIdle r.1) }
         ensures new { IfOk result (λ r. (n : ℕ) (p : _) → at_home r.1 n ≡ Some p → (seen_by p ≡ []) × (made_by p ≡ []) × (lost_by p ≡ [])) }
     {
         let first = Snapshot::of(&core);
