@@ -3,14 +3,26 @@ ghost use Rattle.std.specs.Prelude.{◌≡◌, ◌≢◌, ℕ, ◌≤◌, Some, 
 ghost use Rattle.seat_lock.specs.Passes.{party_of, seats_in, at_home};
 
 use crate::types::{Pass, Passes};
+use std::alloc::Global;
 use std::mem;
 
 impl<E, F> Passes<E, F> {
-    // The number of parties.
-    pub(crate) fn seats(&self) -> u32
+    /// The number of parties.
+    pub fn seats(&self) -> u32
         ensures { result ≡ seats_in self.now }
     {
         self.places.len() as u32
+    }
+
+    /// Hands all passes over, those at home and the places of the others, and leaves no place behind. It takes no memory.
+    pub fn take_all(&mut self, alloc: Global) -> Passes<E, F>
+        ensures passes { result ≡ self.old }
+        ensures left { seats_in self.new ≡ 0 }
+    {
+        let none = Passes {
+            places: Vec::new(alloc),
+        };
+        mem::replace(self, none)
     }
 
     /// Hands out the pass of a party, which is at home.

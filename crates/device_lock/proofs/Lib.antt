@@ -1,0 +1,6 @@
+pub mod Knowing
+pub mod Coming
+pub mod Entering
+pub mod Turning
+pub mod Keeping
+pub mod Gathered
