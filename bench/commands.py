@@ -82,9 +82,9 @@ FORMS = [
 
 def main():
     build()
-    empty = best_of(15, ONE, b"nvmecp 1 block=512 depth=16 budget=1000\n", 0, keep=False)
-    print(f"a header alone: {empty.seconds * 1e3:.2f} ms, taken off below; {empty.peak_kib / 1024:.1f} MiB")
     for name, words, script, sizes in FORMS:
+        empty = best_of(15, words, script(0), 0, keep=False)
+        print(f"without commands: {empty.seconds * 1e3:.2f} ms, taken off below; {empty.peak_kib / 1024:.1f} MiB")
         rows = [(size, best_of(5, words, script(size), 0, keep=False)) for size in sizes]
         print(f"{name:28} {'count':>7} {'ms':>9} {'us each':>8} {'ratio':>6} {'peak MiB':>9}")
         for size, run, seconds, ratio in doubled(rows, empty):
