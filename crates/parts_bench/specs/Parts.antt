@@ -1,5 +1,5 @@
 -- What is done to the parts of the core. This project's own.
-use Rattle.std.specs.Prelude.{◌≡◌, ℕ, zero, suc, ◌+◌, ◌-◌, ◌*◌, ◌/◌, ◌%◌, ◌<◌, ◌==◌, Bool, not, List, [], ◌∷◌, ◌++◌, Option, None, Some, IsSome, length, count_by, sum}
+use Rattle.std.specs.Prelude.{◌≡◌, ℕ, zero, suc, ◌+◌, ◌-◌, ◌*◌, ◌/◌, ◌%◌, ◌<◌, ◌==◌, not, List, [], ◌∷◌, ◌++◌, Option, None, Some, IsSome, count_by, sum}
 use Rattle.std.specs.List.{common_prefix_len, list_any}
 use Rattle.cp_base.specs.Region.{Region}
 use Rattle.cp_base.specs.Runs.{runs_of}

@@ -1,4 +1,4 @@
-use Rattle.std.proofs.Common.{◌≡◌, ◌∙◌, ℕ, List, Option, None, length, unwrap_or, sym, ap, arith}
+use Rattle.std.proofs.Common.{◌≡◌, ◌∙◌, ℕ, Option, None, length, unwrap_or, sym, ap}
 use Rattle.parts_bench.specs.Parts.{left_by, value_of}
 use Rattle.parts_bench.specs.declared.workload.Builtin.{Builtin}
 use Rattle.parts_bench.proofs.Same.{all_same}

@@ -1,4 +1,4 @@
-use Rattle.std.proofs.Common.{◌≡◌, ◌-◌, ◌∙◌, arith}
+use Rattle.std.proofs.Common.{◌-◌, ◌∙◌, arith}
 use Rattle.parts_bench.proofs.Lone.{none_loaded, put_more}
 use Rattle.parts_bench.proofs.pieces.load_backwards.Goals as goal
 
