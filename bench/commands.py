@@ -5,6 +5,8 @@ shows, over doubled sizes.
     python3 bench/commands.py
 """
 
+import random
+
 from measure import best_of, build, doubled
 
 ONE = ["step", "1", "0"]
@@ -24,13 +26,26 @@ def commands(count):
     return ("\n".join(lines) + "\n").encode()
 
 
-def deep_queues(count):
-    """Small writes of 16 hosts, each of which has 256 outstanding before it takes their replies."""
+def writes(places):
+    """Small writes of one host at these places of 16 MiB, by their numbers, each taken before the next one is sent."""
+
+    def script(count):
+        lines = ["nvmecp 1 block=512 depth=16 budget=1000", "mem 1 bytes=16777216", "phase", "host 1"]
+        for i in range(count):
+            lines += [f"send 1 memwrite ns=1 at={places(i)} data=07070707070707070707070707070707", "take 1"]
+        return ("\n".join(lines) + "\n").encode()
+
+    return script
+
+
+def deep_queues(count, apart=True):
+    """Small writes of 16 hosts, each of which has 256 outstanding before it takes their replies: of bytes apart, or all of
+    the same byte."""
     lines = ["nvmecp 1 block=512 depth=256 budget=1000", "mem 1 bytes=65536", "phase"]
     for host in range(1, 17):
         lines.append(f"host {host}")
         for i in range(count // 16):
-            lines.append(f"send {i % 256} memwrite ns=1 at={(host * 256 + i) * 37 % 65_000} data={i % 256:02x}")
+            lines.append(f"send {i % 256} memwrite ns=1 at={(host * 256 + i) * 37 % 65_000 if apart else 0} data={i % 256:02x}")
             if i % 256 == 255:
                 lines += [f"take {cid}" for cid in range(256)]
     return ("\n".join(lines) + "\n").encode()
@@ -50,10 +65,16 @@ def shows(count):
     return ("\n".join(lines) + "\n").encode()
 
 
+RANDOM = random.Random(1)
+DOUBLED = [1_000, 2_000, 4_000, 8_000, 16_000]
 FORMS = [
     ("small commands, 1 worker", ONE, commands, [4_096, 8_192, 16_384]),
     ("small commands, 16 workers", SIXTEEN, commands, [4_096, 8_192, 16_384]),
+    ("writes at one place", ONE, writes(lambda i: 0), DOUBLED),
+    ("writes at random places", ONE, writes(lambda i: RANDOM.randrange(16_777_200)), DOUBLED),
+    ("writes in ascending order", ONE, writes(lambda i: i * 64), DOUBLED),
     ("16 queues of 256, 16 workers", SIXTEEN, deep_queues, [4_096, 8_192, 16_384]),
+    ("the same on one byte", SIXTEEN, lambda count: deep_queues(count, False), [4_096, 8_192, 16_384]),
     ("reads of 8,192 bytes", ONE, reads, [4_096, 8_192, 16_384]),
     ("shows of 8,192 bytes", ONE, shows, [256, 512, 1_024]),
 ]
@@ -61,9 +82,9 @@ FORMS = [
 
 def main():
     build()
-    empty = best_of(15, ONE, b"nvmecp 1 block=512 depth=16 budget=1000\n", 0, keep=False)
-    print(f"a header alone: {empty.seconds * 1e3:.2f} ms, taken off below; {empty.peak_kib / 1024:.1f} MiB")
     for name, words, script, sizes in FORMS:
+        empty = best_of(15, words, script(0), 0, keep=False)
+        print(f"without commands: {empty.seconds * 1e3:.2f} ms, taken off below; {empty.peak_kib / 1024:.1f} MiB")
         rows = [(size, best_of(5, words, script(size), 0, keep=False)) for size in sizes]
         print(f"{name:28} {'count':>7} {'ms':>9} {'us each':>8} {'ratio':>6} {'peak MiB':>9}")
         for size, run, seconds, ratio in doubled(rows, empty):

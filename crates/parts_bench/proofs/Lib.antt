@@ -1,0 +1,4 @@
+pub mod Changed
+pub mod Home
+pub mod Lone
+pub mod Same
