@@ -1,9 +1,8 @@
-use Rattle.std.proofs.Common.{◌≡◌, ℕ, ◌+◌, ◌%◌, ◌^◌, ◌≤◌, List, length, take, sym, ap, ◌∙◌, subst, arith}
+use Rattle.std.proofs.Common.{ℕ, ◌+◌, ◌%◌, ◌^◌, List, take, sym, ap, ◌∙◌, arith}
 use Rattle.std.proofs.Math.Nat.{mod-add-mod}
-use Rattle.std.proofs.lemmas.List.{take_all}
 use Rattle.device_core.specs.Gives.{Ended, ended_as_shown, world_in}
 use Rattle.trail_model.specs.World.{Completion}
-use Rattle.nvmecp.specs.Summed.{ok_among, results_of}
+use Rattle.nvmecp.specs.Summed.{results_of}
 use Rattle.nvmecp.proofs.SummedUp.{ok_of, one_at_most, one_more}
 use Rattle.nvmecp.proofs.summing.summary_of.Goals as goal
 
