@@ -12,6 +12,7 @@ from pathlib import Path
 
 from crates import TOP
 from hostile import check_hostile
+from loads import check_loads
 from schedules import check_schedules
 
 PROGRAM = "./nvmecp"
@@ -78,13 +79,18 @@ def check_examples(checks):
 
 def check_statuses(checks):
     """The statuses that no example has."""
-    for words in ("", "help", "--help", "step", "step 1", "step 1 00", "step 0 0", "step 17 0", "step -- 1 0", "step 1 0 0", "asm dis", "'' "):
+    for words in (
+        *("", "help", "--help", "step", "step 1", "step 1 00", "step 0 0", "step 17 0", "step -- 1 0", "step 1 0 0", "asm dis", "asm x", "'' "),
+        *("make", "make 7", "make 0 8193", "make 18446744073709551616 1", "make 07 1", "make -1 1", "make 7 1 1", "serve 4"),
+    ):
         checks.note(f"wrong words: {words or 'none'}", wrong_in(shell(f"{PROGRAM} {words} < {FIRST_WRITE}"), 1, b""))
     for what, command, status, text in (
         ("standard input closed", f"{PROGRAM} step 1 0 <&-", 3, b""),
         ("a folder as standard input", f"{PROGRAM} step 1 0 < .", 3, b""),
         ("a full device as standard output", f"{PROGRAM} step 1 0 < {FIRST_WRITE} > /dev/full", 4, b""),
         ("standard output closed", f"{PROGRAM} step 1 0 < {FIRST_WRITE} >&-", 4, b""),
+        ("make with standard input closed", f"{PROGRAM} make 0 0 <&-", 0, b"commands 4\nok 4\nother 0\nsum 3\n"),
+        ("make with a full device as standard output", f"{PROGRAM} make 0 0 > /dev/full", 4, b""),
         ("an input that is too long", f"head -c {TOO_LONG} /dev/zero | {PROGRAM} step 1 0", 2, b"too long\n"),
         ("an input as long as it may be", f"head -c {TOO_LONG - 1} /dev/zero | {PROGRAM} step 1 0", 2, b"line 1: Word\n"),
     ):
@@ -129,6 +135,7 @@ def main():
     check_statuses(checks)
     check_hostile(checks.note)
     check_schedules(checks.note)
+    check_loads(checks.note)
     for page in [*sorted(TOP.glob("*.md")), *sorted((TOP / "docs").glob("*.md"))]:
         check_blocks(checks, page)
         check_links(checks, page)

@@ -6,5 +6,7 @@ pub mod OneOutput
 pub mod Printed
 pub mod Short
 pub mod Shows
+pub mod SummedUp
 pub mod Told
+pub mod Unmade
 pub mod Written

@@ -38,7 +38,7 @@ held : {A : Type 0} (x y : A) (o : Option A) → o ≡ Some x → o ≡ Some y �
 held {A = A} x y o a b = ap (λ (found : Option A). unwrap_or found x) (sym a ∙ b)
 
 -- an option holds something or nothing
-not_both : {A : Type 0} (x : A) (o : Option A) → o ≡ None → o ≡ Some x → ⊥
+pub not_both : {A : Type 0} (x : A) (o : Option A) → o ≡ None → o ≡ Some x → ⊥
 not_both x None a b = absurd cc
 not_both x (Some y) a b = absurd cc
 

@@ -21,6 +21,8 @@ use Rattle.history_model.specs.Plain.{PlainPart, plain_phase, plain_phases}
 use Rattle.history_model.specs.Plan.{PlanFault, plan_of}
 use Rattle.history_model.specs.Rules.{KeepsRules}
 use Rattle.history_model.specs.Sent.{Sent, sends_of}
+use Rattle.replay_print.specs.Lines.{summary_lines}
+use Rattle.replay_print.specs.declared.summary.Summary.{Summary}
 use Rattle.script_plan.specs.Meant.{meant}
 use Rattle.script_plan.proofs.Counting.{length-sends_of}
 use Rattle.script_plan.proofs.SizedSends.{script_sized}
@@ -33,10 +35,13 @@ use Rattle.schedule_model.specs.Told.{TellsPlan}
 use Rattle.schedule_model.proofs.Scheduling.{scheduled}
 use Rattle.nvmecp.specs.Finished.{IsFinished, printed_text}
 use Rattle.nvmecp.specs.Lines.{ended_lines, shown_lines}
+use Rattle.nvmecp.specs.Make.{SumsUp, load_workers}
 use Rattle.nvmecp.specs.Shown.{AreShort, IsAtHome}
 use Rattle.nvmecp.specs.Step.{IsPrintOf}
+use Rattle.nvmecp.specs.Summed.{Sums}
 use Rattle.nvmecp.specs.declared.scheduled.Finished.{Finished}
 use Rattle.nvmecp.proofs.Short.{script_short}
+use Rattle.nvmecp.proofs.SummedUp.{summary_is}
 use Rattle.nvmecp.proofs.Told.{printed_of, short_told}
 
 -- the definition's plan, where what is planned has a meaning
@@ -99,6 +104,21 @@ pub print_of : (script : Script) (phases : List Phase) (workers choices : ℕ) (
 print_of script phases workers choices f sized kept planned same h =
     let found = has_plan (plan_of script) (plain_phases phases) planned in
     of_plan script phases found.given workers choices f sized kept found.is found.same (same found.given found.is) h
+
+-- what sums up a plan that was carried out
+pub sums_up_of : (script : Script) (phases : List Phase) (choices : ℕ) (f : Finished) (s : Summary) → AreSized (lines_of script) → KeepsOrderAndLimits script
+    → meant plain_phase (plan_of script) ≡ Ok (plain_phases phases) → ((given : List Phase) → plan_of script ≡ Ok given → sends_of given ≡ sends_of phases)
+    → IsFinished script.config phases load_workers choices f → Sums (world_in f.core).history s → SumsUp script choices (summary_lines s)
+unfolding print_of of_plan
+sums_up_of script phases choices f s sized kept planned same h sums =
+    let c : Configuration = script.config in
+    let print : IsPrintOf script load_workers choices (printed_text f.core script.shows) = print_of script phases load_workers choices f sized kept planned same h in
+    let here : Sums (world_of c f.core.trail).history s = subst (λ (x : Configuration). Sums (world_of x f.core.trail).history s) h.config sums in
+    record {
+      history = printed_text f.core script.shows;
+      print = print;
+      summed = summary_is (world_of c f.core.trail).history print.tells.history s print.tells.told here;
+    }
 
 -- a plan has no more commands than a device carries out
 pub few_commands : (script : Script) (phases : List Phase) (commands : ℕ) → KeepsOrderAndLimits script → commands ≡ length (sends_of phases)

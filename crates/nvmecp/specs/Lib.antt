@@ -4,9 +4,11 @@ pub mod Dis
 pub mod Ends
 pub mod Finished
 pub mod Lines
+pub mod Make
 pub mod Refusal
 pub mod Run
 pub mod Shown
 pub mod Step
+pub mod Summed
 pub mod Task
 pub mod Words

@@ -5,9 +5,11 @@ use Rattle.std.specs.Io.KnownBytes.{IsAtEnd}
 use Rattle.cp_io.specs.Counting.{Rose}
 use Rattle.cp_io.specs.Source.{Gave}
 use Rattle.nvmecp.specs.Ends.{Writes, WritesFront}
+use Rattle.nvmecp.specs.Make.{IsSummary}
 use Rattle.nvmecp.specs.Task.{Task, IsDue, IsRefusal}
-use Rattle.nvmecp.specs.Words.{asked_of, task_of}
+use Rattle.nvmecp.specs.Words.{asked_of, errand_of, load_of, task_of}
 use Rattle.nvmecp.specs.declared.words.Asked.{Asked}
+use Rattle.nvmecp.specs.declared.words.Load.{Load}
 
 -- Status 0: all that the source had left was read, it is not too long, and the text that was asked for is
 -- written.
@@ -34,6 +36,14 @@ pub record IsCutShort {S K : Type 0} (task : Task) (left : S → Option (List �
   pub at_end : length input ≤ task.limit → IsAtEnd (left source')
   pub writes : WritesFront (IsDue task input) (held sink) (held sink')
 
+-- A load was to be made: the source is untouched, and the status is 0, 4 or 5. At 0 the summary is written, at 4 a front
+-- of it.
+pub record IsMade {S K : Type 0} (load : Load) (held : K → Option (List ℕ)) (source source' : S) (sink sink' : K) (status : ℕ) : Type 0 where
+  pub unread : source' ≡ source
+  pub statuses : (status ≡ 0) ⊎ (status ≡ 4) ⊎ (status ≡ 5)
+  pub done : status ≡ 0 → Writes (IsSummary load) (held sink) (held sink')
+  pub cut_short : status ≡ 4 → WritesFront (IsSummary load) (held sink) (held sink')
+
 -- Nothing failed: neither count of faults rose.
 pub record NoFault {S K : Type 0} (source_faults : S → ℕ) (sink_faults : K → ℕ) (source source' : S) (sink sink' : K) : Type 0 where
   pub read : Rose (source_faults source) (source_faults source') → ⊥
@@ -43,11 +53,12 @@ pub record NoFault {S K : Type 0} (source_faults : S → ℕ) (sink_faults : K �
 -- fields are the clauses of the run.
 pub record Ran {S K : Type 0} (words : List (List ℕ)) (left : S → Option (List ℕ)) (given : S → ℕ) (source_faults : S → ℕ) (held : K → Option (List ℕ)) (sink_faults : K → ℕ)
     (source source' : S) (sink sink' : K) (status : ℕ) : Type 0 where
-  pub usage : status ≡ 1 → asked_of words ≡ None
-  pub wrong : asked_of words ≡ None → (status ≡ 1) ⊎ (status ≡ 5)
+  pub usage : status ≡ 1 → errand_of words ≡ None
+  pub wrong : errand_of words ≡ None → (status ≡ 1) ⊎ (status ≡ 5)
   pub untouched : status ≡ 1 → (source' ≡ source) × (sink' ≡ sink)
   pub done : status ≡ 0 → IfSome (asked_of words) (λ asked. Done (task_of asked) left given held source source' sink sink')
   pub refused : status ≡ 2 → IfSome (asked_of words) (λ asked. IsRefused (task_of asked) left given held source source' sink sink')
+  pub made : IfSome (load_of words) (λ load. IsMade load held source source' sink sink' status)
   pub read_fault : status ≡ 3 → Rose (source_faults source) (source_faults source')
   pub write_fault : status ≡ 4 → Rose (sink_faults sink) (sink_faults sink')
   pub cut_short : status ≡ 4 → IfSome (asked_of words) (λ asked. IsCutShort (task_of asked) left given held source source' sink sink')

@@ -2,6 +2,7 @@
 use Rattle.std.specs.Prelude.{ℕ, ◌≤◌, List, Option, Some, None, option_and_then}
 use Rattle.cp_base.specs.declared.limits.TheConstants.{MAX_HOSTS}
 use Rattle.cp_line.specs.Orders.{order_of}
+use Rattle.cp_line.specs.declared.limits.TheConstants.{MAX_MADE}
 use Rattle.cp_line.specs.declared.order.Order.{Order}
 use Rattle.cp_line.specs.declared.order.Order.TheVariants as order
 use Rattle.nvmecp.specs.Asm.{asm_task}
@@ -10,26 +11,52 @@ use Rattle.nvmecp.specs.Step.{step_task}
 use Rattle.nvmecp.specs.Task.{Task}
 use Rattle.nvmecp.specs.declared.words.Asked.{Asked}
 use Rattle.nvmecp.specs.declared.words.Asked.TheVariants as asked
+use Rattle.nvmecp.specs.declared.words.Errand.{Errand}
+use Rattle.nvmecp.specs.declared.words.Errand.TheVariants as errand
+use Rattle.nvmecp.specs.declared.words.Load.{Load}
 
--- what an order asks of this version of the program: `step`, `asm` or `dis`; None for the others
-abbrev pub asked_by : Order → Option Asked
-asked_by (order.Step workers choices) = Some (asked.Step workers choices)
-asked_by (order.Serve workers) = None
-asked_by (order.Make seed commands) = None
-asked_by order.Asm = Some asked.Asm
-asked_by order.Dis = Some asked.Dis
-asked_by order.Upgrade = None
-asked_by order.Check = None
+-- what this version of the program does on an order; None for orders that it does not carry out
+abbrev pub errand_by : Order → Option Errand
+errand_by (order.Step workers choices) = Some (errand.Answer (asked.Step workers choices))
+errand_by (order.Serve workers) = None
+errand_by (order.Make seed commands) = Some (errand.Make (record { seed = seed; commands = commands }))
+errand_by order.Asm = Some (errand.Answer asked.Asm)
+errand_by order.Dis = Some (errand.Answer asked.Dis)
+errand_by order.Upgrade = None
+errand_by order.Check = None
 
--- what the words ask for; None where they are no order, or one that this version does not carry out
+-- what is done on words; None where they are no order, or one that this version does not carry out
+abbrev pub errand_of : List (List ℕ) → Option Errand
+errand_of words = option_and_then errand_by (order_of words)
+
+-- what is asked of an input
+abbrev pub asked_in : Errand → Option Asked
+asked_in (errand.Answer question) = Some question
+asked_in (errand.Make load) = None
+
+-- the load that is to be made
+abbrev pub load_in : Errand → Option Load
+load_in (errand.Answer question) = None
+load_in (errand.Make load) = Some load
+
+-- what the words ask of an input; None where they are wrong, or want none
 abbrev pub asked_of : List (List ℕ) → Option Asked
-asked_of words = option_and_then asked_by (order_of words)
+asked_of words = option_and_then asked_in (errand_of words)
+
+-- the load that the words ask for; None where they are wrong, or want an input
+abbrev pub load_of : List (List ℕ) → Option Load
+load_of words = option_and_then load_in (errand_of words)
 
 -- workers that are asked for are 1 to 16
 abbrev pub HasWorkers : Asked → Type 0
 HasWorkers (asked.Step workers choices) = (1 ≤ workers) × (workers ≤ MAX_HOSTS)
 HasWorkers asked.Asm = Unit {0}
 HasWorkers asked.Dis = Unit {0}
+
+-- the numbers of an errand are in their ranges: workers are 1 to 16, and a load has at most 8,192 commands
+abbrev pub IsInRange : Errand → Type 0
+IsInRange (errand.Answer question) = HasWorkers question
+IsInRange (errand.Make load) = load.commands ≤ MAX_MADE
 
 -- what is done with the input
 abbrev pub task_of : Asked → Task

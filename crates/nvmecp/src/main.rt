@@ -12,11 +12,13 @@ mod asm;
 mod dis;
 mod ending;
 mod laws;
+mod make;
 mod printing;
 mod refusing;
 mod run;
 mod scheduled;
 mod step;
+mod summing;
 #[cfg(test)]
 mod tests;
 mod words;

@@ -2,13 +2,17 @@
 ghost use Rattle.std.specs.Prelude.{◌≡◌, ℕ, ◌≤◌, ◌⊎◌, ◌↔◌, List, Some, None, IfSome, length, map};
 ghost use Rattle.std.specs.String.{string_bytes};
 ghost use Rattle.cp_io.specs.Counting.{Rose};
-ghost use Rattle.nvmecp.specs.Run.{Done, IsCutShort, IsRefused, NoFault};
-ghost use Rattle.nvmecp.specs.Words.{HasWorkers, asked_of, task_of};
+ghost use Rattle.cp_line.specs.declared.limits.TheConstants.{MAX_MADE};
+ghost use Rattle.nvmecp.specs.Ends.{Writes, WritesFront};
+ghost use Rattle.nvmecp.specs.Make.{IsSummary};
+ghost use Rattle.nvmecp.specs.Run.{Done, IsCutShort, IsMade, IsRefused, NoFault};
+ghost use Rattle.nvmecp.specs.Words.{HasWorkers, asked_of, errand_of, load_of, task_of};
 ghost use Rattle.nvmecp.specs.declared.words.Asked.{Asked};
 
 use crate::ending::{NO_MEMORY, READ_FAULT, USAGE};
+use crate::make;
 use crate::refusing::refuse;
-use crate::words::{Asked, read_words};
+use crate::words::{Asked, Errand, Load, read_words};
 use cp_io::{ReadEnd, Sink, Source, read_all};
 use std::alloc::Global;
 
@@ -39,18 +43,35 @@ fn read_and_answer<S: Source, K: Sink>(
     }
 }
 
+// Makes a load and sums it up.
+fn make_and_sum_up<K: Sink>(alloc: Global, load: Load, sink: &mut K) -> u8
+    requires { load.commands ≤ MAX_MADE }
+    ensures status { (result ≡ 0) ⊎ (result ≡ 4) ⊎ (result ≡ 5) }
+    ensures done { result ≡ 0 → Writes (IsSummary load) (K.held sink.old) (K.held sink.new) }
+    ensures cut_short { result ≡ 4 → WritesFront (IsSummary load) (K.held sink.old) (K.held sink.new) }
+    ensures write_fault { result ≡ 4 → Rose (K.faults sink.old) (K.faults sink.new) }
+    ensures unwritten { result ≡ 5 → sink.new ≡ sink.old }
+{
+    make::answer(alloc, load, sink).status()
+}
+
 /// Runs the program: the words of the command line after its name, the source of its input and the sink
 /// of its text. Gives the status: 0 done, 1 wrong words, 2 the input is refused, 3 the source failed,
 /// 4 the sink failed, 5 memory is wanting.
 pub fn run<S: Source, K: Sink>(alloc: Global, words: &[String], source: &mut S, sink: &mut K) -> u8
     // The words.
-    ensures usage { (result ≡ 1) ↔ (asked_of (map string_bytes words.now) ≡ None) }
+    ensures usage { (result ≡ 1) ↔ (errand_of (map string_bytes words.now) ≡ None) }
     ensures untouched { result ≡ 1 → (source.new ≡ source.old) × (sink.new ≡ sink.old) }
 
     // The headline: what was asked for is written. For `step` that is the text of a history that is legal for the plan
     // of the script that was read, told by a trail of the schedule that the workers and the choices select.
     ensures done { result ≡ 0 → IfSome (asked_of (map string_bytes words.now)) (λ asked.
         Done (task_of asked) S.left S.given K.held source.old source.new sink.old sink.new) }
+
+    // A load: nothing is read, and what is written is the summary of the history that the schedule of four workers gives
+    // of its script, by the seed.
+    ensures made { IfSome (load_of (map string_bytes words.now)) (λ load.
+        IsMade load K.held source.old source.new sink.old sink.new result) }
 
     // What is told otherwise, and its causes.
     ensures refused { result ≡ 2 → IfSome (asked_of (map string_bytes words.now)) (λ asked.
@@ -72,7 +93,8 @@ pub fn run<S: Source, K: Sink>(alloc: Global, words: &[String], source: &mut S, 
         → NoFault S.faults K.faults source.old source.new sink.old sink.new → (result ≡ 2) ⊎ (result ≡ 5) }
 {
     match read_words(words) {
-        Some(asked) => read_and_answer(alloc, asked, source, sink),
+        Some(Errand::Answer(asked)) => read_and_answer(alloc, asked, source, sink),
+        Some(Errand::Make(load)) => make_and_sum_up(alloc, load, sink),
         None => USAGE,
     }
 }

@@ -3,7 +3,7 @@ ghost use Rattle.std.specs.Prelude.{◌≡◌, ◌≤◌, IfSome, length, map};
 ghost use Rattle.std.specs.String.{string_bytes};
 ghost use Rattle.cp_line.specs.Orders.{IsInTable};
 ghost use Rattle.nvmecp.specs.Ends.{EndsBy};
-ghost use Rattle.nvmecp.specs.Words.{HasWorkers, asked_by, asked_of, task_of};
+ghost use Rattle.nvmecp.specs.Words.{HasWorkers, IsInRange, errand_by, errand_of, task_of};
 
 use crate::ending::Ending;
 use crate::{asm, dis, step};
@@ -13,7 +13,7 @@ use cp_line::Order;
 use script_line::VERSION_1;
 use std::alloc::Global;
 
-/// What the words of the command line ask for.
+/// What is asked of an input.
 #[derive(Clone, Copy, Debug)]
 pub enum Asked {
     /// A script is carried out by so many workers in turn. The choices select an interleaving.
@@ -22,6 +22,22 @@ pub enum Asked {
     Asm,
     /// Code is made assembly text.
     Dis,
+}
+
+/// The load that is to be made: the seed of its words, and how many commands it has behind those that prepare the device.
+#[derive(Clone, Copy, Debug)]
+pub struct Load {
+    pub seed: u64,
+    pub commands: u32,
+}
+
+/// What the words of the command line want to be done.
+#[derive(Clone, Copy, Debug)]
+pub enum Errand {
+    /// An input is read whole and answered.
+    Answer(Asked),
+    /// A load is made and carried out, and its history summed up.
+    Make(Load),
 }
 
 impl Asked {
@@ -52,25 +68,28 @@ impl Asked {
     }
 }
 
-// What an order asks of this version of the program. `None` for orders that are not built yet: threads, loads, the
-// second version of scripts and the checker.
-fn asked_by(order: Order) -> Option<Asked>
+// What this version of the program does on an order. `None` for orders that are not built yet: threads, the second version
+// of scripts and the checker.
+fn errand_by(order: Order) -> Option<Errand>
     requires { IsInTable order }
-    ensures asked { result ≡ asked_by order }
-    ensures workers { IfSome result HasWorkers }
+    ensures errand { result ≡ errand_by order }
+    ensures range { IfSome result IsInRange }
 {
     match order {
-        Order::Step { workers, choices } => Some(Asked::Step { workers, choices }),
-        Order::Asm => Some(Asked::Asm),
-        Order::Dis => Some(Asked::Dis),
-        Order::Serve { .. } | Order::Make { .. } | Order::Upgrade | Order::Check => None,
+        Order::Step { workers, choices } => {
+            Some(Errand::Answer(Asked::Step { workers, choices }))
+        }
+        Order::Make { seed, commands } => Some(Errand::Make(Load { seed, commands })),
+        Order::Asm => Some(Errand::Answer(Asked::Asm)),
+        Order::Dis => Some(Errand::Answer(Asked::Dis)),
+        Order::Serve { .. } | Order::Upgrade | Order::Check => None,
     }
 }
 
-/// What the words ask for. `None` where they ask for nothing that the program does.
-pub fn read_words(words: &[String]) -> Option<Asked>
-    ensures asked { result ≡ asked_of (map string_bytes words.now) }
-    ensures workers { IfSome result HasWorkers }
+/// What is done on words. `None` where the program does nothing on them.
+pub fn read_words(words: &[String]) -> Option<Errand>
+    ensures errand { result ≡ errand_of (map string_bytes words.now) }
+    ensures range { IfSome result IsInRange }
 {
-    asked_by(cp_line::read_words(words)?)
+    errand_by(cp_line::read_words(words)?)
 }

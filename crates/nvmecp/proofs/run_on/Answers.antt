@@ -16,6 +16,7 @@ returns-in-Ok g c =
       untouched = c.run.ensures.untouched;
       done = c.run.ensures.done;
       refused = c.run.ensures.refused;
+      made = c.run.ensures.made;
       read_fault = c.run.ensures.read_fault;
       write_fault = c.run.ensures.write_fault;
       cut_short = c.run.ensures.cut_short;

@@ -1,4 +1,3 @@
-use Rattle.std.proofs.Common.{ℕ, List}
 use Rattle.std.specs.List.{concat}
 use Rattle.device_core.specs.Gives.{world_in}
 use Rattle.nvmecp.specs.Lines.{ended_lines, shown_lines}

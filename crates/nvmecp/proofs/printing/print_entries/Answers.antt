@@ -1,7 +1,7 @@
 use Rattle.std.proofs.Common.{ℕ, List, arith}
 use Rattle.device_core.specs.Gives.{ended_as_shown, world_in}
 use Rattle.nvmecp.specs.Lines.{ended_lines}
-use Rattle.nvmecp.proofs.Written.{all, count_lines, cut, more, no_end, short_entry, the_line, told}
+use Rattle.nvmecp.proofs.Written.{all, count_lines, cut, more, short_entry, the_line, told}
 use Rattle.nvmecp.proofs.printing.print_entries.Goals as goal
 
 pub loop-k-preserved : goal.loop-k-preserved
