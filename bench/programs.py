@@ -4,7 +4,8 @@
     python3 bench/programs.py
 
 The time of an instruction in one long `execute` of a script stands beside that of the same loop in bpf_bench, in the
-same run; programs that are loaded byte by byte, the last byte first, beside half as many bytes.
+same run; the device's own `sum` over 1 MiB beside a loaded program that sums the same bytes; programs that are loaded byte
+by byte, the last byte first, beside half as many bytes.
 """
 
 from bpf import timed
@@ -19,6 +20,18 @@ EXECUTION = (
     f"phase\nhost 1\nsend 1 setcreate ranges=1:0:16\ntake 1\nsend 2 load slot=0 size=32 at=0 data={LOOP}\ntake 2\n"
     "send 3 activate slot=0\ntake 3\nsend 4 execute slot=0 set=1 p1=1000000000000 p2=0 budget="
 )
+SUMMED = 1_048_576
+# Sums so many bytes of the first range as the first parameter says.
+SUM = """mov64 r6 r1
+lddw r4 4294967296
+mov64 r0 0
+ldxb r5 r4 0
+add64 r0 r5
+add64 r4 1
+sub64 r6 1
+jne64 r6 0 -5
+exit
+"""
 PIECES = [4_096, 8_192, 16_384]
 
 
@@ -31,6 +44,36 @@ def instruction():
     begun = min(timed("loop", 1) for _ in range(5))
     whole = min(timed("loop", rounds) for _ in range(5))
     return in_script, (whole[0] - begun[0]) * 1e9 / (whole[1] - begun[1])
+
+
+def sums():
+    """Seconds that the device's own program takes for the sum of bytes, and a loaded one."""
+    code = best_of(1, ["asm"], SUM.encode(), 0).text.decode().strip()
+    lines = [
+        f"nvmecp 1 block=512 depth=16 budget={BUDGET}",
+        f"mem 1 bytes={SUMMED}",
+        "phase",
+        "host 1",
+        f"send 1 setcreate ranges=1:0:{SUMMED}",
+        "take 1",
+        f"send 2 load slot=0 size={len(code) // 2} at=0 data={code}",
+        "take 2",
+        "send 3 activate slot=0",
+        "take 3",
+        f"send 4 memfill ns=1 at=0 len={SUMMED} value=3",
+        "take 4",
+    ]
+
+    def took(slot, times):
+        """Seconds of a run that executes the program of a slot so many times."""
+        execution = [f"send 5 execute slot={slot} set=1 p1={SUMMED} p2=0 budget={BUDGET}", "take 5"]
+        run = best_of(5, WORDS, ("\n".join(lines + execution * times) + "\n").encode(), 0)
+        answers = [line for line in run.text.decode().splitlines() if " c5 " in line]
+        assert len(answers) == times and all(f"Ok r={3 * SUMMED} " in line for line in answers)
+        return run.seconds
+
+    none = took(0, 0)
+    return (took(65, 200) - none) / 200, (took(0, 4) - none) / 4
 
 
 def lone_bytes(count):
@@ -46,6 +89,8 @@ def main():
     build("bpf_bench")
     in_script, alone = instruction()
     print(f"an instruction of an execution of {BUDGET}: {in_script:.2f} ns, in bpf_bench {alone:.2f} ns, ratio {in_script / alone:.2f}")
+    own, loaded = sums()
+    print(f"the sum of {SUMMED} bytes: {own * 1e6:.1f} us in slot 65, {loaded * 1e6:.1f} us loaded, ratio {loaded / own:.1f}")
     empty = best_of(15, WORDS, HEAD.encode(), 0, keep=False)
     print(f"{'lone bytes':10} {'ms':>9} {'us each':>8} {'ratio':>6}")
     rows = [(count, best_of(5, WORDS, lone_bytes(count), 0, keep=False)) for count in PIECES]
