@@ -1,6 +1,6 @@
 #!/usr/bin/env python3
-"""Time and memory of `make`: a load is made, read, planned, carried out by four workers and summed up, over doubled numbers
-of commands.
+"""Time and memory of `make`: a load is made, read, planned, carried out by four workers and summed up, over doubled
+numbers of commands.
 
     python3 bench/make.py
 """

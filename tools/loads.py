@@ -1,6 +1,6 @@
 #!/usr/bin/env python3
-"""Makes loads by `make`, and compares each summary with that of the history that `step` prints of the same script, which a
-second reading of docs/FORMATS.md, "Loads", makes. `./check` calls it.
+"""Makes loads by `make`, and compares each summary with that of the history that `step` prints of the same script, which
+a second reading of docs/FORMATS.md, "Loads", makes. `./check` calls it.
 
     python3 tools/loads.py
 """
