@@ -66,5 +66,5 @@ all-with-two d ps qs m k p q all seats others home number of home' number' of' =
   where
     by_number : (n : ℕ) (x : DevicePass) → at_home qs n ≡ Some x → (n ≡ m) ⊎ (n ≡ m → ⊥) → (n ≡ k) ⊎ (n ≡ k → ⊥) → IsLawful d.config d.commands (seen_by x)
     by_number n x there (inl e) other = subst (λ (y : DevicePass). IsLawful d.config d.commands (seen_by y)) (some_same p x (sym home ∙ (ap (at_home qs) (sym e) ∙ there))) of.lawful
-    by_number n x there (inr no) (inl e) = subst (λ (y : DevicePass). IsLawful d.config d.commands (seen_by y)) (some_same q x (sym home' ∙ (ap (at_home qs) (sym e) ∙ there))) of'.lawful
-    by_number n x there (inr no) (inr none) = (all.each n x (sym (others n no none) ∙ there)).lawful
+    by_number n x there (inr differs) (inl e) = subst (λ (y : DevicePass). IsLawful d.config d.commands (seen_by y)) (some_same q x (sym home' ∙ (ap (at_home qs) (sym e) ∙ there))) of'.lawful
+    by_number n x there (inr differs) (inr none) = (all.each n x (sym (others n differs none) ∙ there)).lawful

@@ -7,6 +7,8 @@ mod jobs;
 mod kept;
 mod locked;
 mod parties;
+#[cfg(test)]
+mod tests;
 mod turns;
 
 pub use answers::{Offer, Sent, Taken, TryOffer, TryTaken};
