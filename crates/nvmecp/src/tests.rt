@@ -419,7 +419,7 @@ fn wrong_words_touch_nothing(rt: HostRuntime) {
         "",
         "step 17 0",
         "serve 1",
-        "make 0 0",
+        "make 0 8193",
         "asm 1",
         "dis dis",
         "-asm",
