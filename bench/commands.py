@@ -7,7 +7,7 @@ shows, over doubled sizes.
 
 import random
 
-from measure import best_of, build, doubled
+from measure import best_in_turn, build, doubled
 
 ONE = ["step", "1", "0"]
 SIXTEEN = ["step", "16", "0"]
@@ -83,11 +83,10 @@ FORMS = [
 def main():
     build()
     for name, words, script, sizes in FORMS:
-        empty = best_of(15, words, script(0), 0, keep=False)
+        empty, *runs = best_in_turn(11, [(words, script(size)) for size in (0, *sizes)])
         print(f"without commands: {empty.seconds * 1e3:.2f} ms, taken off below; {empty.peak_kib / 1024:.1f} MiB")
-        rows = [(size, best_of(5, words, script(size), 0, keep=False)) for size in sizes]
         print(f"{name:28} {'count':>7} {'ms':>9} {'us each':>8} {'ratio':>6} {'peak MiB':>9}")
-        for size, run, seconds, ratio in doubled(rows, empty):
+        for size, run, seconds, ratio in doubled(zip(sizes, runs), empty):
             print(f"{'':28} {size:7} {seconds * 1e3:9.2f} {seconds / size * 1e6:8.3f} {ratio:>6} {run.peak_kib / 1024:9.1f}")
 
 

@@ -28,15 +28,15 @@ def build(program="nvmecp"):
         sys.exit(done.returncode)
 
 
-def run_once(words, data, keep):
-    """One run on these bytes, whose text is kept or not. Input and output lie in files, so that no pipe is
+def run_once(words, data, keep, program=PROGRAM):
+    """One run of a program on these bytes, whose text is kept or not. Input and output lie in files, so that no pipe is
     measured. The peak memory is never below that of this program, which starts the other as a copy of itself;
     so long texts are not kept where memory is measured."""
     with tempfile.TemporaryFile() as source, tempfile.TemporaryFile() as sink:
         source.write(data)
         source.seek(0)
         began = time.perf_counter()
-        child = subprocess.Popen([PROGRAM, *words], stdin=source, stdout=sink, cwd=TOP)
+        child = subprocess.Popen([program, *words], stdin=source, stdout=sink, cwd=TOP)
         _, state, usage = os.wait4(child.pid, 0)
         seconds = time.perf_counter() - began
         child.returncode = os.waitstatus_to_exitcode(state)
@@ -52,6 +52,18 @@ def best_of(times, words, data, status, text=None, keep=True):
         if run.status != status or text not in (None, run.text):
             sys.exit(f"{' '.join(words)}: status {run.status}, {run.text[:80]!r}")
     return min(runs, key=lambda run: run.seconds)
+
+
+def best_in_turn(times, runs, status=0):
+    """The fastest run for each of these words and inputs, whose texts are not kept. They are run in turn, so that all meet
+    the machine alike."""
+    best = [None] * len(runs)
+    for _ in range(times):
+        for number, (words, data) in enumerate(runs):
+            run = best_of(1, words, data, status, keep=False)
+            if best[number] is None or run.seconds < best[number].seconds:
+                best[number] = run
+    return best
 
 
 def doubled(rows, empty):

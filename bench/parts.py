@@ -31,24 +31,33 @@ def run(name, workload, rounds):
     return seconds, usage.ru_maxrss
 
 
-def least(name, workload, rounds):
-    """The seconds of the fastest of several runs."""
-    return min(run(name, workload, rounds)[0] for _ in range(TRIES))
+def least(name, workload, all_rounds, tries=TRIES):
+    """The seconds of the fastest run of each of these numbers of rounds. They are run in turn, so that all meet the machine
+    alike."""
+    seconds = dict.fromkeys(all_rounds, float("inf"))
+    for _ in range(tries):
+        for rounds in all_rounds:
+            seconds[rounds] = min(seconds[rounds], run(name, workload, rounds)[0])
+    return seconds
 
 
 def each(name, workload, rounds):
     """The seconds of a round."""
-    return max(least(name, workload, rounds) - least(name, workload, 0), 1e-9) / rounds
+    seconds = least(name, workload, (0, rounds))
+    return max(seconds[rounds] - seconds[0], 1e-9) / rounds
 
 
 def pieces():
+    # (a run takes a few milliseconds, so many are needed)
+    counts = (4_096, 8_192, 16_384, 32_768)
+    seconds = least(NAME, "pieces", (0, *counts), tries=100)
     print("| lone bytes | us each | ratio |\n|---|---|---|")
     before = None
-    for count in (4_096, 8_192, 16_384, 32_768):
-        seconds = each(NAME, "pieces", count)
-        ratio = f"{seconds * 2 / before:.2f}" if before else ""
-        print(f"| {count} | {seconds * 1e6:.3f} | {ratio} |")
-        before = seconds
+    for count in counts:
+        took = seconds[count] - seconds[0]
+        ratio = f"{took / before:.2f}" if before else ""
+        print(f"| {count} | {took / count * 1e6:.3f} | {ratio} |")
+        before = took
 
 
 def claims():

@@ -8,8 +8,7 @@ same run; the device's own `sum` over 1 MiB beside a loaded program that sums th
 by byte, the last byte first, beside half as many bytes.
 """
 
-from bpf import timed
-from measure import best_of, build, doubled
+from measure import PROGRAM, TOP, best_of, build, doubled, run_once
 
 BUDGET = 10_000_000
 WORDS = ["step", "1", "0"]
@@ -37,13 +36,16 @@ PIECES = [4_096, 8_192, 16_384]
 
 def instruction():
     """Nanoseconds of an instruction in an execution of a script, and in bpf_bench."""
-    short = best_of(5, WORDS, (HEAD + EXECUTION + "1000\n").encode(), 0)
-    long = best_of(5, WORDS, (HEAD + EXECUTION + f"{BUDGET}\n").encode(), 0)
-    in_script = (long.seconds - short.seconds) * 1e9 / (BUDGET - 1000)
-    rounds = BUDGET // 2
-    begun = min(timed("loop", 1) for _ in range(5))
-    whole = min(timed("loop", rounds) for _ in range(5))
-    return in_script, (whole[0] - begun[0]) * 1e9 / (whole[1] - begun[1])
+    scripts = [(HEAD + EXECUTION + f"{budget}\n").encode() for budget in (1000, BUDGET)]
+    runs = [(WORDS, script, PROGRAM) for script in scripts]
+    runs += [(["loop", str(rounds)], b"", TOP / "out" / "bpf_bench") for rounds in (500, BUDGET // 2)]
+    seconds = [float("inf")] * len(runs)
+    # (in turn and by the same clock, so that both programs meet the machine alike)
+    for _ in range(25):
+        for number, run in enumerate(runs):
+            seconds[number] = min(seconds[number], run_once(*run[:2], keep=False, program=run[2]).seconds)
+    short, long, begun, whole = seconds
+    return (long - short) * 1e9 / (BUDGET - 1000), (whole - begun) * 1e9 / (BUDGET - 1000)
 
 
 def sums():

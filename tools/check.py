@@ -11,13 +11,15 @@ import sys
 from pathlib import Path
 
 from crates import TOP
+from faults import check_faults
 from hostile import check_hostile
 from loads import check_loads
 from schedules import check_schedules
+from traces import check_traces
 
 PROGRAM = "./nvmecp"
 # More than the largest input, whose limit the documents state.
-TOO_LONG = 16_777_217
+TOO_LONG = 33_554_433
 FIRST_WRITE = "examples/first-write.script"
 
 
@@ -60,8 +62,8 @@ def beside(file, ending, otherwise=None):
 
 def check_examples(checks):
     """Each script gives what stands beside it: .expected, and where they are others than `step 1 0` and 0 the words in
-    .words and the status in .status. Where there are NAME.CASE.words too, it gives NAME.CASE.expected for them. Assembly
-    and code of one name give each other."""
+    .words and the status in .status. Where there are NAME.CASE.words too, it gives NAME.CASE.expected for them. So does each
+    trace by `check`. Assembly and code of one name give each other."""
     for script in sorted((TOP / "examples").glob("*.script")):
         name = script.relative_to(TOP)
         for case in [script, *sorted(script.parent.glob(f"{script.stem}.*.words"))]:
@@ -70,6 +72,10 @@ def check_examples(checks):
             expected = beside(case, ".expected")
             done = shell(f"{PROGRAM} {words} < {name}")
             checks.note(f"{name}, {words}", wrong_in(done, status, expected) if expected is not None else "it has no .expected beside it")
+    for trace in sorted((TOP / "examples").glob("*.trace")):
+        name = trace.relative_to(TOP)
+        done = shell(f"{PROGRAM} check < {name}")
+        checks.note(f"{name}, check", wrong_in(done, int(beside(trace, ".status", b"0")), trace.with_suffix(".expected").read_bytes()))
     for text in sorted((TOP / "examples").glob("*.asm")):
         code = text.with_suffix(".hex")
         for word, source, target in (("asm", text, code), ("dis", code, text)):
@@ -81,13 +87,15 @@ def check_statuses(checks):
     """The statuses that no example has."""
     for words in (
         *("", "help", "--help", "step", "step 1", "step 1 00", "step 0 0", "step 17 0", "step -- 1 0", "step 1 0 0", "asm dis", "asm x", "'' "),
-        *("make", "make 7", "make 0 8193", "make 18446744073709551616 1", "make 07 1", "make -1 1", "make 7 1 1", "serve 4"),
+        *("make", "make 7", "make 0 8193", "make 18446744073709551616 1", "make 07 1", "make -1 1", "make 7 1 1", "serve 4", "upgrade 1"),
     ):
         checks.note(f"wrong words: {words or 'none'}", wrong_in(shell(f"{PROGRAM} {words} < {FIRST_WRITE}"), 1, b""))
     for what, command, status, text in (
         ("standard input closed", f"{PROGRAM} step 1 0 <&-", 3, b""),
         ("a folder as standard input", f"{PROGRAM} step 1 0 < .", 3, b""),
         ("a full device as standard output", f"{PROGRAM} step 1 0 < {FIRST_WRITE} > /dev/full", 4, b""),
+        ("upgrade with a full device as standard output", f"{PROGRAM} upgrade < {FIRST_WRITE} > /dev/full", 4, b""),
+        ("upgrade twice", f"{PROGRAM} upgrade < {FIRST_WRITE} | {PROGRAM} upgrade | {PROGRAM} step 1 0", 0, b"#1 h1 n1 c1 memwrite Ok r=0 d=\nshow mem 1 at=0 len=4 d=01020000\n"),
         ("standard output closed", f"{PROGRAM} step 1 0 < {FIRST_WRITE} >&-", 4, b""),
         ("make with standard input closed", f"{PROGRAM} make 0 0 <&-", 0, b"commands 4\nok 4\nother 0\nsum 3\n"),
         ("make with a full device as standard output", f"{PROGRAM} make 0 0 > /dev/full", 4, b""),
@@ -136,6 +144,8 @@ def main():
     check_hostile(checks.note)
     check_schedules(checks.note)
     check_loads(checks.note)
+    check_faults(checks.note)
+    check_traces(checks.note)
     for page in [*sorted(TOP.glob("*.md")), *sorted((TOP / "docs").glob("*.md"))]:
         check_blocks(checks, page)
         check_links(checks, page)

@@ -13,11 +13,12 @@ import sys
 from concurrent.futures import ThreadPoolExecutor
 
 from crates import TOP
+from loads import words_from
 
 PROGRAM = TOP / "nvmecp"
 STORED = TOP / "examples" / "sum-of-blocks.script"
 # The largest input, in bytes.
-MOST_BYTES = 16_777_216
+MOST_BYTES = 33_554_432
 # How long one run may take, in seconds. No run comes near it.
 PATIENCE = 120
 FAULT = re.compile(rb"line (\d+): [A-Z][A-Za-z]+\n")
@@ -39,6 +40,12 @@ def answered(script, status, text):
     done = run(script)
     fits = done.returncode == status and done.stdout == text and not done.stderr
     return None if fits else f"{told(done)} and not status {status}, {text[:120]!r}"
+
+
+def is_legal(text, history):
+    """Whether the sequential device, stepped through a history by `check`, confirms it for a script."""
+    done = run(text + b"\n" + history, ("check",))
+    return done.returncode == 0 and done.stdout == b"legal\n"
 
 
 def header(depth=16, budget=1000, block=512):
@@ -159,6 +166,13 @@ LIMITS = (
     ("value=%s", "nvmecp 1 block=512 depth=1 budget=1\nmem 1 bytes=1\nphase\nhost 1\nsend 1 memfill ns=1 at=0 len=2 value={}\n", 255),
     ("slot=%s", "nvmecp 1 block=512 depth=1 budget=1\nmem 1 bytes=1\nphase\nhost 1\nsend 1 unload slot={}\n", 4_294_967_295),
     ("show len=%s", "nvmecp 1 block=512 depth=1 budget=1\nmem 1 bytes=8193\nphase\nhost 1\nshow mem 1 at=0 len={}\n", 8_192),
+    ("queues=%s", "nvmecp 2 block=512 queues={} depth=1 budget=1\nphase\nhost 1\n", 16),
+    ("depth=%s of a queue", "nvmecp 2 block=512 queues=4 depth={} budget=1\nphase\nhost 1\n", 1_024),
+    ("depth=%s of 16 queues", "nvmecp 2 block=512 queues=16 depth={} budget=1\nphase\nhost 1\n", 256),
+    ("budget=%s in version 2", "nvmecp 2 block=512 queues=1 depth=1 budget={}\nphase\nhost 1\n", 100_000_000),
+    ("queue %s", "nvmecp 2 block=512 queues=3 depth=1 budget=1\nphase\nhost 1\nsend {}:1 unload slot=0\n", 3),
+    ("cid %s of a queue", "nvmecp 2 block=512 queues=3 depth=1 budget=1\nphase\nhost 1\nsend 1:{} unload slot=0\n", 65_535),
+    ("queue %s of an abort", "nvmecp 2 block=512 queues=3 depth=1 budget=1\nphase\nhost 1\nsend 1:1 abort cid={}:1\n", 3),
 )
 
 
@@ -280,6 +294,56 @@ def wild_programs(count=400):
     return None
 
 
+# ---- programs at the edges
+
+
+# A code, how many of the 16 bytes its range has, the first parameter, the budget, and what the execution is told: stores and
+# loads at the ends of the stack and of the range, calls and jumps to places far away.
+EDGES = (
+    ("720a000001000000 9500000000000000", 1, 0, 10, "BadAccess r=0"),
+    ("720affff01000000 9500000000000000", 1, 0, 10, "Ok r=0"),
+    ("1801000000000000 0000000001000000 7910000000000000 9500000000000000", 7, 0, 10, "BadAccess r=2"),
+    ("1801000000000000 0000000001000000 7910000000000000 9500000000000000", 8, 0, 10, "Ok r=0"),
+    ("b7010000ffffffff 7110010000000000 9500000000000000", 1, 0, 10, "BadAccess r=1"),
+    ("85100000ffffffff", 1, 0, 8, "CallDepth r=0"),
+    ("85100000ffffffff", 1, 0, 7, "BudgetSpent r=7"),
+    ("0500ff7f00000000", 1, 0, 10, "BadJump r=0"),
+    ("06000000ffffff7f", 1, 0, 10, "BadJump r=0"),
+)
+
+
+def execution(code, length, p1, budget):
+    """A script that makes a set of the first bytes, loads a code, activates it and executes it."""
+    return script(
+        *("mem 1 bytes=16", "phase", "host 1", f"send 1 setcreate ranges=1:0:{length}", "take 1"),
+        *(f"send 2 load slot=0 size={len(code) // 2} at=0 data={code}", "take 2", "send 3 activate slot=0", "take 3"),
+        *(f"send 4 execute slot=0 set=1 p1={p1} p2=0 budget={budget}", "show mem 1 at=0 len=16"),
+    )
+
+
+def edges():
+    for code, length, p1, budget, told_so in EDGES:
+        front = "#1 h1 n1 c1 setcreate Ok r=1 d=\n#2 h1 n2 c2 load Ok r=0 d=\n#3 h1 n3 c3 activate Ok r=0 d=\n"
+        text = f"{front}#4 h1 n4 c4 execute {told_so} d=\nshow mem 1 at=0 len=16 d={'00' * 16}\n"
+        wrong = answered(execution(code.replace(" ", ""), length, p1, budget), 0, text.encode())
+        if wrong:
+            return f"{code}: {wrong}"
+    return None
+
+
+def drawn_codes(count=200):
+    """Codes of 1 to 64 units whose bytes are drawn: each command is told, and the sequential device confirms the history."""
+    def one(number):
+        words = words_from(number)
+        units = 1 + next(words) % 64
+        code = b"".join(next(words).to_bytes(8, "little") for _ in range(units))
+        text = execution(code.hex(), 16, 0, 1000)
+        done = run(text)
+        fits = done.returncode == 0 and not done.stderr and done.stdout.count(b"\n#") + 1 == 4 and is_legal(text, done.stdout)
+        return None if fits else told(done)
+    return first_wrong(one, range(1, count + 1))
+
+
 # ---- an output that nobody reads
 
 
@@ -312,6 +376,8 @@ def check_hostile(note):
     note(f"{len(stored)} scripts that are cut", cut_anywhere(stored))
     note(f"{len(stored)} scripts of which a byte is changed", changed_anywhere(stored))
     note("400 programs of random code", wild_programs())
+    note("programs at the edges of their bytes and of code", edges())
+    note("200 codes whose bytes are drawn", drawn_codes())
     note("a reader that leaves", closed_pipe())
 
 

@@ -12,6 +12,7 @@ from concurrent.futures import ThreadPoolExecutor
 from dataclasses import dataclass
 
 from crates import TOP
+from hostile import is_legal
 
 PROGRAM = TOP / "nvmecp"
 HEADER = "nvmecp 1 block=512 depth=16 budget=1000\nmem 1 bytes=16\n"
@@ -182,11 +183,11 @@ def scripts():
 
 def wrong_text(lines, workers, choices):
     """What is wrong with one run, or None."""
-    words = ("step", str(workers), str(choices))
-    done = subprocess.run([PROGRAM, *words], input=(HEADER + lines + SHOW).encode(), capture_output=True, timeout=60, check=False)
+    words, script = ("step", str(workers), str(choices)), (HEADER + lines + SHOW).encode()
+    done = subprocess.run([PROGRAM, *words], input=script, capture_output=True, timeout=60, check=False)
     wanted = text_of(lines, workers, choices)
     if done.returncode == 0 and done.stdout.decode() == wanted and not done.stderr:
-        return None
+        return None if is_legal(script, done.stdout) else f"the sequential device does not confirm what {' '.join(words)} wrote: {wanted!r}"
     return f"{' '.join(words)} wrote {done.stdout.decode()!r}, status {done.returncode}, and not {wanted!r}"
 
 

@@ -12,6 +12,3 @@ pub use atomic::atomic_new;
 pub use narrow::{alu32, holds32};
 pub use swap::byte_swap;
 pub use wide::{alu64, holds64};
-
-#[cfg(test)]
-mod tests;

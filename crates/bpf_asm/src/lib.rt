@@ -15,6 +15,3 @@ pub use assembler::{AsmEnd, assemble};
 pub use disassembler::disassemble;
 pub use laws::{assembly_laws, lines_by_example, one_answer};
 pub use line::{LINE_ROOM, append_line, push_line};
-
-#[cfg(test)]
-mod tests;

@@ -13,6 +13,3 @@ mod units;
 
 pub use decoder::{DecodeEnd, Decoded, decode};
 pub use encoder::encode;
-
-#[cfg(test)]
-mod tests;

@@ -12,6 +12,3 @@ mod runs;
 
 pub use bpf_isa::End;
 pub use runs::run;
-
-#[cfg(test)]
-mod tests;

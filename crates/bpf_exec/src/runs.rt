@@ -94,6 +94,9 @@ fn run_from(
 /// The end is that of the outcome: `Exit` with R0, a fault with the place of its instruction in units of
 /// 8 bytes, or `BudgetSpent`. However it ends, the windows hold what the program has stored until then.
 /// What is left on the stack is not told.
+///
+/// The loop is a function of its own in each program: within a caller it would share the caller's registers.
+#[inline(never)]
 pub fn run(code: &Decoded, view: &mut View, p1: u64, p2: u64, budget: u64) -> End
     requires budget { 1 ≤ budget }
     requires stack { view.old.stack ≡ replicate stack_len 0 }

@@ -6,8 +6,6 @@ mod classes;
 mod counts;
 mod differences;
 mod sums;
-#[cfg(test)]
-mod tests;
 
 pub use classes::mark_class;
 pub use counts::count_byte;

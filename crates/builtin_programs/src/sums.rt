@@ -1,6 +1,6 @@
 // The sum of bytes.
 ghost use Rattle.std.specs.Prelude.{◌≡◌, ◌+◌, ◌*◌, ◌≤◌, length, sum};
-ghost use Rattle.std.specs.Simd.Lanes.{chunk, sum_l};
+ghost use Rattle.std.specs.Simd.Lanes.{chunk};
 
 use crate::LANES;
 use cp_base::MAX_NAMESPACE;
@@ -14,13 +14,13 @@ pub fn sum_bytes(bytes: &[u8]) -> u64
     requires { length bytes.now ≤ MAX_SUMMED }
     ensures { result ≡ sum bytes.now }
 {
-    let mut sums = u32x16::splat(0);
+    let mut total = 0u64;
     let mut at = 0usize;
     while bytes.len() - at >= LANES {
-        sums = sums.strict_add(sums_in_lanes(bytes, at));
+        total += u64::from(sum_in_lanes(bytes, at));
         at += LANES;
     }
-    u64::from(sums.strict_reduce_sum()) + sum_plainly(&bytes[at..])
+    total + sum_plainly(&bytes[at..])
 }
 
 // The sum of the bytes, one by one.
@@ -35,12 +35,13 @@ fn sum_plainly(bytes: &[u8]) -> u64
     total
 }
 
-// The sums of each four neighbours of the 64 bytes from a place on.
+// The sum of the 64 bytes from a place on. The processor sums bytes that are widened and summed at once.
 #[inline(always)]
-fn sums_in_lanes(bytes: &[u8], at: usize) -> u32x16
+fn sum_in_lanes(bytes: &[u8], at: usize) -> u32
     requires { at + LANES ≤ length bytes.now }
-    ensures lanes { length result ≡ 16 }
-    ensures sum { sum_l result ≡ sum_l (chunk at LANES bytes.now) }
+    ensures { result ≡ sum (chunk at LANES bytes.now) }
 {
-    u8x64::from_slice(&bytes[at..]).dot4(u8x64::splat(1))
+    u8x64::from_slice(&bytes[at..])
+        .cast::<u32>()
+        .strict_reduce_sum()
 }

@@ -3,8 +3,6 @@
 
 mod numbers;
 mod places;
-#[cfg(test)]
-mod tests;
 mod view;
 mod window;
 

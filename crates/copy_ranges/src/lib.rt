@@ -3,8 +3,6 @@
 
 mod plan;
 mod sources;
-#[cfg(test)]
-mod tests;
 mod wide;
 
 pub use plan::{CopyPlan, check_copy};

@@ -12,8 +12,6 @@ mod region;
 mod replies;
 mod sequence;
 mod spans;
-#[cfg(test)]
-mod tests;
 mod words;
 
 pub use buffer::Bytes;

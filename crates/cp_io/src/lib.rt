@@ -15,6 +15,3 @@ pub use sink::{Sink, Took, WriteFault, write_all};
 pub use source::{Got, ReadEnd, Source, read_all};
 pub use standard::{StdSink, StdSource};
 pub use worked::{worked_reads, worked_writes};
-
-#[cfg(test)]
-mod tests;

@@ -4,8 +4,6 @@
 mod laws;
 mod limits;
 mod order;
-#[cfg(test)]
-mod tests;
 
 pub use laws::{order_laws, orders_by_example};
 pub use limits::MAX_MADE;

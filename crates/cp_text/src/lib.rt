@@ -7,8 +7,6 @@ mod numbers;
 mod parts;
 mod pieces;
 mod signed_numbers;
-#[cfg(test)]
-mod tests;
 
 pub use hexadecimal::{append_hex, hex_bytes, push_hex};
 pub use laws::{

@@ -4,3 +4,4 @@ pub mod Entering
 pub mod Turning
 pub mod Keeping
 pub mod Gathered
+pub mod Crossing

@@ -14,7 +14,7 @@ use std::alloc::Global;
 use std::marker::Model;
 
 // How many bytes an extent has at first, at most: a cut then copies little.
-const FIRST: u64 = 65_536;
+const FIRST: u64 = 8_192;
 
 /// The bytes of every namespace. What is taken out leaves a hole, until it is put back.
 ///

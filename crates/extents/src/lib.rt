@@ -3,8 +3,6 @@
 
 mod extents;
 mod space;
-#[cfg(test)]
-mod tests;
 mod tiles;
 
 pub use extents::Extents;

@@ -27,11 +27,11 @@ not-itself s earlier (inr (same, found)) =
 abbrev pub same-name : Sent → Sent → Bool
 same-name a b = (a.host == b.host) && (a.ordinal == b.ordinal)
 
-both-true : (a b : Bool) → (a && b) ≡ true → (a ≡ true) × (b ≡ true)
+pub both-true : (a b : Bool) → (a && b) ≡ true → (a ≡ true) × (b ≡ true)
 both-true true b e = (refl, e)
 both-true false b e = absurd (false≢true e)
 
-any-true : (test : Sent → Bool) (xs : List Sent) → list_any test xs ≡ true → (y : Sent) × Among xs y × (test y ≡ true)
+pub any-true : (test : Sent → Bool) (xs : List Sent) → list_any test xs ≡ true → (y : Sent) × Among xs y × (test y ≡ true)
 any-true test [] e = absurd (false≢true e)
 any-true test (x ∷ xs) e = by_test (test x) refl e (λ h. any-true test xs h)
   where
@@ -40,7 +40,7 @@ any-true test (x ∷ xs) e = by_test (test x) refl e (λ h. any-true test xs h)
     by_test true is e later = (x, inl refl, is)
     by_test false is e later = let h = later e in (h.0, inr h.1, h.2)
 
-any-false : (test : Sent → Bool) (xs : List Sent) → list_any test xs ≡ false → AllByRecursion (λ y. test y ≡ false) xs
+pub any-false : (test : Sent → Bool) (xs : List Sent) → list_any test xs ≡ false → AllByRecursion (λ y. test y ≡ false) xs
 any-false test [] e = tt
 any-false test (x ∷ xs) e = by_test (test x) refl e (λ h. any-false test xs h)
   where

@@ -64,7 +64,7 @@ ordinal-waits P cid waiting k all found =
     mapped (w ∷ ws) all = (all.0, mapped ws all.1)
 
 -- what a command names waits
-named-waits : (P : ℕ → Type 0) (waiting : List Waiting) (cmd : Command) (k : ℕ) → AllByRecursion (λ (w : Waiting). P w.ordinal) waiting → named_in waiting cmd ≡ Some k → P k
+pub named-waits : (P : ℕ → Type 0) (waiting : List Waiting) (cmd : Command) (k : ℕ) → AllByRecursion (λ (w : Waiting). P w.ordinal) waiting → named_in waiting cmd ≡ Some k → P k
 named-waits P waiting (command.Abort cid) k all is = by_last (last-among None (ordinals_of cid waiting) k is)
   where
     by_last : Among (ordinals_of cid waiting) k ⊎ (None ≡ Some k) → P k

@@ -23,21 +23,21 @@ use Rattle.history_check.proofs.Continuing.{beginning-continued}
 use Rattle.history_check.proofs.TextLines.{entries-of-beginning, entry-cut, entry-ends, entry-lacks, entry_front, next-entry, next-line, text-append}
 
 -- the lines of entries, of which the first has this number
-entry_lines : ℕ → List Entry → List (List ℕ)
+pub entry_lines : ℕ → List Entry → List (List ℕ)
 entry_lines k [] = []
 entry_lines k (entry ∷ entries) = entry_text k entry ∷ entry_lines (k + 1) entries
 
-lines-text : (k : ℕ) (entries : List Entry) → concat (entry_lines k entries) ≡ entries_text k entries
+pub lines-text : (k : ℕ) (entries : List Entry) → concat (entry_lines k entries) ≡ entries_text k entries
 unfolding entry_lines
 lines-text k [] = refl
 lines-text k (entry ∷ entries) = ap (λ (xs : List ℕ). entry_text k entry ++ xs) (lines-text (k + 1) entries)
 
-lines-count : (k : ℕ) (entries : List Entry) → length (entry_lines k entries) ≡ length entries
+pub lines-count : (k : ℕ) (entries : List Entry) → length (entry_lines k entries) ≡ length entries
 unfolding entry_lines
 lines-count k [] = refl
 lines-count k (entry ∷ entries) = let later = lines-count (k + 1) entries in omega (arith, later)
 
-are-lines : (k : ℕ) (entries : List Entry) → k + length entries < 2 ^ 64 → AllByRecursion IsSizedEntry entries → AllByRecursion IsLine (entry_lines k entries)
+pub are-lines : (k : ℕ) (entries : List Entry) → k + length entries < 2 ^ 64 → AllByRecursion IsSizedEntry entries → AllByRecursion IsLine (entry_lines k entries)
 unfolding entry_lines
 are-lines k [] few sized = tt
 are-lines k (entry ∷ entries) few sized = (
@@ -62,7 +62,7 @@ begin-lines c plan shows entries b all =
     }
 
 -- a text with a newline does not lack it
-newline-stands : (front rest : List ℕ) → lacks 10 (front ++ 10 ∷ rest) ≡ true → ⊥
+pub newline-stands : (front rest : List ℕ) → lacks 10 (front ++ 10 ∷ rest) ≡ true → ⊥
 newline-stands [] rest plain = let h = lacks_first 10 10 rest plain in let same = eq-eqb 10 10 refl in absurd cc
 newline-stands (b ∷ front) rest plain = newline-stands front rest (lacks_first 10 b (front ++ 10 ∷ rest) plain).1
 

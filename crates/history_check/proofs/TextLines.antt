@@ -36,7 +36,7 @@ pub record AreEntries (sends : List Sent) (entries : List Entry) : Type 0 where
   pub among : AllByRecursion (λ (e : Entry). Among sends e.sent) entries
   pub sized : AllByRecursion IsSizedEntry entries
 
-entries-of-legal : (c : Configuration) (plan : List Phase) (history : List Entry) → IsSized c plan → IsLegal c plan history → AreEntries (sends_of plan) history
+pub entries-of-legal : (c : Configuration) (plan : List Phase) (history : List Entry) → IsSized c plan → IsLegal c plan history → AreEntries (sends_of plan) history
 entries-of-legal c plan history sized legal = record {
   among = each-among (sents_of history) (sends_of plan) history legal.each_once (All-contains_itself (sents_of history));
   sized = every-of-All IsSizedEntry history (history_sized c plan history sized.budget sized.few sized.sends legal);

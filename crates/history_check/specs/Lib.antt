@@ -1,3 +1,9 @@
 pub mod Beginning
 pub mod FirstBad
+pub mod Name
+pub mod Readiness
+pub mod Reading
 pub mod SizedPlan
+pub mod Standing
+pub mod Table
+pub mod Verdict

@@ -1,14 +1,34 @@
 // Laws of beginnings and of the first bad line. The functions do nothing: what they ensure is what is proved.
-ghost use Rattle.std.specs.Prelude.{◌≡◌, ℕ, ◌+◌, ◌<◌, true, List, [], ◌∷◌, ◌++◌, All, length};
+ghost use Rattle.std.specs.Prelude.{◌≡◌, ℕ, ◌+◌, ◌<◌, ◌^◌, true, List, [], ◌∷◌, ◌++◌, All, length};
 ghost use Rattle.std.specs.List.{concat};
+ghost use Rattle.cp_text.specs.HexText.{AreBytes};
+ghost use Rattle.script_line.specs.Sized.{AreSized, IsSizedLine};
+ghost use Rattle.script_cmds.specs.Kept.{KeepsOrderAndLimits};
+ghost use Rattle.script_cmds.specs.Text.{lines_of, show_line};
+ghost use Rattle.script_cmds.specs.declared.item.Show.{Show};
+ghost use Rattle.script_cmds.specs.declared.script.Script.{Script};
 ghost use Rattle.history_model.specs.Entry.{Entry};
 ghost use Rattle.history_model.specs.Legal.{IsLegal};
 ghost use Rattle.history_model.specs.Sent.{sends_of};
-ghost use Rattle.history_model.specs.Text.{entries_text, entry_text, history_text};
+ghost use Rattle.history_model.specs.Text.{entries_text, entry_text, history_text, shown_text};
 ghost use Rattle.cp_text.specs.Parts.{lacks};
 ghost use Rattle.history_check.specs.Beginning.{IsBeginning, MayComeNext};
 ghost use Rattle.history_check.specs.FirstBad.{BeginLegally, IsFirstBad, IsLegalText, IsLine};
 ghost use Rattle.history_check.specs.SizedPlan.{IsSized};
+ghost use Rattle.history_check.specs.Verdict.{AreShown, IsInside};
+
+/// What is read of a script can be checked: its numbers have 64 bits and its data are bytes, and its shows that
+/// lie inside their namespaces do so as well.
+pub fn scripts_can_be_checked()
+    ensures plan { (script : Script) (plan : _) → AreSized (lines_of script) → KeepsOrderAndLimits script → sends_of plan ≡ sends_of script.phases
+        → length (sends_of plan) < 2 ^ 64 → IsSized script.config plan }
+    ensures shows { (script : Script) → AreSized (lines_of script) → All (IsInside script.config) script.shows → AreShown script.config script.shows }
+{}
+
+/// The line of a show is a line: one newline ends it, and none stands before.
+pub fn shown_lines_are_lines()
+    ensures { (show : Show) (bytes : List ℕ) → IsSizedLine (show_line show) → AreBytes bytes → IsLine (shown_text show bytes) }
+{}
 
 /// Entries begin a legal history of a plan exactly where they are consistent with it: whatever a device has
 /// answered so far, it can go on to a legal history, and nothing but a consistent beginning leads to one. None at

@@ -1,6 +1,6 @@
 -- The commands of a plan in the order of the text: phases do not fall, and each host counts on.
 use Rattle.std.proofs.Common.{◌≡◌, ℕ, ◌+◌, ◌<◌, ◌≤◌, ◌==◌, not, inl, inr, List, [], ◌∷◌, ◌++◌, cond, filter, length, arith, refl, sym, ◌∙◌, ap}
-use Rattle.std.specs.List.{AllByRecursion, AllPairs, Contains}
+use Rattle.std.specs.List.{AllByRecursion, Contains}
 use Rattle.std.specs.Prelude.{count_by}
 use Rattle.std.proofs.lemmas.Bool.{eq-eqb}
 use Rattle.std.proofs.lemmas.List.Sums.{count_by-le-length, sum_by-append, sum_by-cons}
@@ -9,7 +9,7 @@ use Rattle.script_cmds.specs.declared.item.Item.TheVariants as item
 use Rattle.script_cmds.specs.declared.item.HostPart.{HostPart}
 use Rattle.script_cmds.specs.declared.item.Phase.{Phase}
 use Rattle.history_model.specs.Sent.{Sent, Waiting, TakenBefore, named_in, ordinals_of, sends_of_items, sends_of_parts, sends_of_phases, sends_of, next_ordinal}
-use Rattle.history_model.proofs.Every.{every-weaker, every-append, every-map, every-filter, every-All, Pairwise, pairwise-AllPairs, pairwise-append}
+use Rattle.history_model.proofs.Every.{every-weaker, every-append, every-map, every-filter, every-All, Pairwise, pairwise-append}
 
 -- one command stands before another in the text
 pub record Precedes (a b : Sent) : Type 0 where
@@ -206,13 +206,3 @@ pub not-taken-before : (a b : Sent) → Precedes a b → TakenBefore b a → ⊥
 not-taken-before a b order (inl phases) = omega (arith, order.phases, phases)
 not-taken-before a b order (inr (same, found)) =
     omega (arith, order.ordinals (sym same), not-above a.ordinal a.taken b.ordinal order.taken found)
-
-pairwise-weaker : {A : Type 0} (R S : A → A → Type 0) → ((x y : A) → R x y → S x y) → (xs : List A) → Pairwise R xs → Pairwise S xs
-pairwise-weaker R S weaker [] all = tt
-pairwise-weaker R S weaker (x ∷ xs) all = (every-weaker (R x) (S x) (weaker x) xs all.0, pairwise-weaker R S weaker xs all.1)
-
--- in the order of the text no command stands before one that has to be over first
-pub file-order : (plan : List Phase) → AllPairs (λ (earlier later : Sent). TakenBefore later earlier → ⊥) (sends_of plan)
-file-order plan =
-    pairwise-AllPairs (λ (earlier later : Sent). TakenBefore later earlier → ⊥) (sends_of plan)
-    (pairwise-weaker Precedes (λ (earlier later : Sent). TakenBefore later earlier → ⊥) not-taken-before (sends_of plan) (sends-in-order plan))

@@ -1,5 +1,5 @@
 -- Scripts and histories that serve as worked examples. This project's own.
-use Rattle.std.specs.Prelude.{ℕ, List, [], ◌∷◌, Option, Some, None, map}
+use Rattle.std.specs.Prelude.{ℕ, ◌*◌, List, [], ◌∷◌, Option, Some, None, map}
 use Rattle.std.specs.declared.alloc.Global.{Global}
 use Rattle.std.specs.declared.sync.Arc.{Arc}
 use Rattle.cp_base.specs.Configuration.{Configuration, bare, with_size}
@@ -12,7 +12,9 @@ use Rattle.script_cmds.specs.declared.item.Item.{Item}
 use Rattle.script_cmds.specs.declared.item.Item.TheVariants as item
 use Rattle.script_cmds.specs.declared.item.HostPart.{HostPart}
 use Rattle.script_cmds.specs.declared.item.Phase.{Phase}
+use Rattle.script_cmds.specs.declared.form.Form.{Form}
 use Rattle.script_cmds.specs.declared.script.Script.{Script}
+use Rattle.script_line.specs.declared.version.Version.TheVariants as version
 use Rattle.history_model.specs.Entry.{Entry}
 use Rattle.history_model.specs.Sent.{Sent, sends_of}
 
@@ -39,12 +41,27 @@ part host items = record { host = host; items = items }
 abbrev pub one_phase : List HostPart → List Phase
 one_phase parts = record { hosts = parts } ∷ []
 
+-- version 1
+abbrev pub one_queue : Form
+one_queue = record { version = version.One; queues = 1 }
+
+-- version 2 with so many queues
+abbrev pub with_queues : ℕ → Form
+with_queues queues = record { version = version.Two; queues = queues }
+
+abbrev pub script_in : Form → ℕ → List Phase → Script
+script_in form depth phases = record { form = form; config = small_device depth; phases = phases; shows = [] }
+
 abbrev pub script_of : ℕ → List Phase → Script
-script_of depth phases = record { config = small_device depth; phases = phases; shows = [] }
+script_of depth phases = script_in one_queue depth phases
 
 -- one host, whose host line is the fourth
 abbrev pub one_host : ℕ → List Item → Script
 one_host depth items = script_of depth (one_phase (part 1 items ∷ []))
+
+-- one host with two queues of this depth each
+abbrev pub with_two_queues : ℕ → List Item → Script
+with_two_queues depth items = script_in (with_queues 2) (2 * depth) (one_phase (part 1 items ∷ []))
 
 -- two hosts side by side: one fills, the other reads
 abbrev pub two_hosts : Arc Command Global → List Phase

@@ -1,18 +1,19 @@
 -- The plan of a script: its phases with the takes that the end of each host's part adds, or the first
 -- line that breaks a rule of queues. This project's own; that a command identifier is unique among the
 -- outstanding commands of its queue is NVMe's (Base Specification, submission queue entries).
-use Rattle.std.specs.Prelude.{ℕ, ◌+◌, ◌==◌, nat_le, Bool, not, List, [], ◌∷◌, ◌++◌, Result, Ok, Err, if◌then◌else◌, length, map, filter}
+use Rattle.std.specs.Prelude.{ℕ, ◌+◌, ◌==◌, nat_le, Bool, not, List, [], ◌∷◌, ◌++◌, Result, Ok, Err, if◌then◌else◌, length, map, filter, count_by}
 use Rattle.std.specs.List.{list_any}
 use Rattle.script_cmds.specs.declared.item.Item.{Item}
 use Rattle.script_cmds.specs.declared.item.Item.TheVariants as item
 use Rattle.script_cmds.specs.declared.item.HostPart.{HostPart}
 use Rattle.script_cmds.specs.declared.item.Phase.{Phase}
 use Rattle.script_cmds.specs.declared.script.Script.{Script}
+use Rattle.script_cmds.specs.Queues.{queue_depth, queue_of}
 use Rattle.script_cmds.specs.Text.{configuration_lines}
 
 -- the rules of queues, each by its breach
 pub data Breach : Type 0 where
-  -- as many commands as the queue's depth are outstanding
+  -- as many commands of the queue as its depth are outstanding
   QueueFull : Breach
   -- the identifier is that of an outstanding command
   CidBusy : Breach
@@ -38,12 +39,16 @@ then_plan front (Err fault) = Err fault
 abbrev pub is_outstanding : ℕ → List ℕ → Bool
 is_outstanding cid outstanding = list_any (λ other. other == cid) outstanding
 
+-- how many outstanding commands are those of a queue
+abbrev pub in_queue : ℕ → List ℕ → ℕ
+in_queue queue outstanding = count_by (λ cid. queue_of cid == queue) outstanding
+
 -- A host's items from a line on, where commands of these identifiers are outstanding, in order of
--- sending. Those that are outstanding at the end are taken in that order.
+-- sending, and each of its queues has this depth. Those that are outstanding at the end are taken in that order.
 abbrev pub planned_items : ℕ → ℕ → List ℕ → List Item → Result (List Item) PlanFault
 planned_items depth line outstanding [] = Ok (map (λ cid. item.Take cid) outstanding)
 planned_items depth line outstanding (item.Send cid command ∷ items) =
-    if nat_le depth (length outstanding) then breaks line QueueFull
+    if nat_le depth (in_queue (queue_of cid) outstanding) then breaks line QueueFull
     else if is_outstanding cid outstanding then breaks line CidBusy
     else then_plan (λ rest. item.Send cid command ∷ rest) (planned_items depth (line + 1) (outstanding ++ cid ∷ []) items)
 planned_items depth line outstanding (item.Take cid ∷ items) =
@@ -82,4 +87,5 @@ planned_phases depth line (phase ∷ phases) =
 
 -- the plan of a script, or the first line that breaks a rule
 abbrev pub plan_of : Script → Result (List Phase) PlanFault
-plan_of script = planned_phases script.config.depth (length (configuration_lines script.config) + 1) script.phases
+plan_of script =
+    planned_phases (queue_depth script.form script.config.depth) (length (configuration_lines script.form script.config) + 1) script.phases

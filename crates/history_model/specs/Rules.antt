@@ -9,14 +9,29 @@ use Rattle.script_cmds.specs.declared.item.Item.{Item}
 use Rattle.script_cmds.specs.declared.item.Item.TheVariants as item
 use Rattle.script_cmds.specs.declared.item.HostPart.{HostPart}
 use Rattle.script_cmds.specs.declared.item.Phase.{Phase}
+use Rattle.script_cmds.specs.Queues.{queue_of}
+use Rattle.history_model.specs.Plan.{in_queue}
 
 -- the identifiers of the outstanding commands after one of them is taken
 abbrev pub without : ℕ → List ℕ → List ℕ
 without cid outstanding = filter (λ other. not (other == cid)) outstanding
 
--- A host's items keep the rules of its queue, where commands of these identifiers are outstanding: each
--- send finds room and an identifier that no outstanding command has, each take names an outstanding
+-- A host's items keep the rules of each of its queues, where commands of these identifiers are outstanding: each
+-- send finds room in its queue and an identifier that no outstanding command has, each take names an outstanding
 -- command, and at the end nothing is outstanding.
+abbrev pub KeepsEachQueue : ℕ → List ℕ → List Item → Type 0
+KeepsEachQueue depth outstanding [] = outstanding ≡ []
+KeepsEachQueue depth outstanding (item.Send cid command ∷ items) =
+    (in_queue (queue_of cid) outstanding < depth) × (Contains outstanding cid → ⊥) × KeepsEachQueue depth (outstanding ++ cid ∷ []) items
+KeepsEachQueue depth outstanding (item.Take cid ∷ items) = Contains outstanding cid × KeepsEachQueue depth (without cid outstanding) items
+
+-- a phase has a host, and each host's part keeps the rules of each of its queues
+pub record KeepEachQueue (depth : ℕ) (phase : Phase) : Type 0 where
+  pub acted : 0 < length phase.hosts
+  pub queues : All (λ (part : HostPart). KeepsEachQueue depth [] part.items) phase.hosts
+
+-- The same of the device, which holds what a host has in all its queues as one queue: each send finds room among
+-- all that is outstanding.
 abbrev pub KeepsQueue : ℕ → List ℕ → List Item → Type 0
 KeepsQueue depth outstanding [] = outstanding ≡ []
 KeepsQueue depth outstanding (item.Send cid command ∷ items) =

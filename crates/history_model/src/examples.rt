@@ -1,6 +1,6 @@
 // Worked examples of the definitions. The functions do nothing: what they ensure is what is proved.
 ghost use Rattle.std.specs.Prelude.{◌≡◌, ◌++◌, ◌∷◌, [], None, Some, codes};
-ghost use Rattle.history_model.specs.Examples.{answered, fill, fill_and_withdraw, filled, look, looked, named_by, one_host, one_phase, part, script_of, sending, small_device, told, two_hosts, withdraw, withdrawing};
+ghost use Rattle.history_model.specs.Examples.{answered, fill, fill_and_withdraw, filled, look, looked, named_by, one_host, one_phase, part, script_of, sending, small_device, told, two_hosts, withdraw, with_two_queues, withdrawing};
 ghost use Rattle.history_model.specs.Legal.{IsLegal};
 ghost use Rattle.history_model.specs.Plain.{plain_phases};
 ghost use Rattle.history_model.specs.Plan.{QueueFull, CidBusy, NotOutstanding, NoHosts, breaks, plan_of};
@@ -17,6 +17,8 @@ pub fn faults_of_plans_by_example()
     ensures full_deeper { (shared : _) → plan_of (one_host 2 (sending shared 1 fill ∷ sending shared 2 fill ∷ sending shared 3 fill ∷ [])) ≡ breaks 7 QueueFull }
     ensures busy { (shared : _) → plan_of (one_host 2 (sending shared 1 fill ∷ sending shared 1 fill ∷ [])) ≡ breaks 6 CidBusy }
     ensures full_before_busy { (shared : _) → plan_of (one_host 1 (sending shared 1 fill ∷ sending shared 1 fill ∷ [])) ≡ breaks 6 QueueFull }
+    ensures second_queue_full { (shared : _) → plan_of (with_two_queues 1 (sending shared 7 fill ∷ sending shared 65543 fill ∷ sending shared 65544 fill ∷ [])) ≡ breaks 7 QueueFull }
+    ensures busy_in_queue { (shared : _) → plan_of (with_two_queues 2 (sending shared 7 fill ∷ sending shared 7 fill ∷ [])) ≡ breaks 6 CidBusy }
     ensures not_outstanding { plan_of (one_host 1 (item.Take 5 ∷ [])) ≡ breaks 5 NotOutstanding }
     ensures no_hosts { plan_of (script_of 1 (one_phase [])) ≡ breaks 3 NoHosts }
 {}
@@ -25,6 +27,7 @@ pub fn faults_of_plans_by_example()
 pub fn plans_by_example()
     ensures taken_at_end { (shared : _) → plan_of (one_host 2 (sending shared 2 fill ∷ sending shared 1 fill ∷ [])) ≡ Ok (one_phase (part 1 (sending shared 2 fill ∷ sending shared 1 fill ∷ item.Take 2 ∷ item.Take 1 ∷ []) ∷ [])) }
     ensures taken_between { (shared : _) → plan_of (one_host 1 (sending shared 1 fill ∷ item.Take 1 ∷ sending shared 1 look ∷ [])) ≡ Ok (one_phase (part 1 (sending shared 1 fill ∷ item.Take 1 ∷ sending shared 1 look ∷ item.Take 1 ∷ []) ∷ [])) }
+    ensures two_queues { (shared : _) → plan_of (with_two_queues 1 (sending shared 7 fill ∷ sending shared 65543 fill ∷ [])) ≡ Ok (one_phase (part 1 (sending shared 7 fill ∷ sending shared 65543 fill ∷ item.Take 7 ∷ item.Take 65543 ∷ []) ∷ [])) }
     ensures equal_cids { (shared : _) → plan_of (script_of 1 (two_hosts shared)) ≡ Ok (one_phase (part 1 (sending shared 1 fill ∷ item.Take 1 ∷ []) ∷ part 2 (sending shared 1 look ∷ item.Take 1 ∷ []) ∷ [])) }
 {}
 

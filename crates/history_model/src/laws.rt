@@ -5,18 +5,12 @@ ghost use Rattle.device_model.specs.Step.{DeviceStep, outcome_of};
 ghost use Rattle.history_model.specs.Entry.{Entry};
 ghost use Rattle.history_model.specs.Legal.{IsLegal, after_status};
 ghost use Rattle.history_model.specs.Rules.{KeepsRules};
-ghost use Rattle.history_model.specs.Sent.{TakenBefore, sends_of};
+ghost use Rattle.history_model.specs.Sent.{sends_of};
 ghost use Rattle.history_model.specs.Sized.{IsSizedEntry, IsSizedSend};
 ghost use Rattle.history_model.specs.Text.{history_text};
 ghost use Rattle.script_cmds.specs.Hosts.{hosts_of};
 
 use cp_base::{Command, Status};
-
-/// The order of the script's text is legal: no command stands before one that has to be over before it
-/// is sent. So a driver may carry out the commands in that order.
-pub fn file_order_is_legal()
-    ensures in_order { (plan : _) → AllPairs (λ earlier later. TakenBefore later earlier → ⊥) (sends_of plan) }
-{}
 
 /// What the device answers settles the state after the command.
 pub fn step_is_settled()

@@ -9,6 +9,6 @@ pub use examples::{
     plans_by_example,
 };
 pub use laws::{
-    file_order_is_legal, hosts_of_a_phase_differ, legal_histories_are_sized,
-    none_is_withdrawn_without_an_abort, step_is_settled, text_tells_the_history,
+    hosts_of_a_phase_differ, legal_histories_are_sized, none_is_withdrawn_without_an_abort,
+    step_is_settled, text_tells_the_history,
 };

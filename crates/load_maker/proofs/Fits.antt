@@ -12,6 +12,8 @@ use Rattle.script_line.specs.Field.{Value, Count, Data, Copied}
 use Rattle.script_line.specs.Fits.{is_within, line_fits}
 use Rattle.script_line.specs.Line.{Line, send_line}
 use Rattle.script_line.specs.Sized.{AreSized, IsSized, IsSizedLine, IsSizedSource}
+use Rattle.script_line.specs.declared.version.Version.TheVariants as version
+use Rattle.script_cmds.specs.Progress.{names_queues}
 use Rattle.load_maker.specs.Load.{kind_command, same_bytes, take_line, word_command}
 
 -- a fact of both sides of a choice
@@ -43,7 +45,7 @@ both : (a b : Bool) → a ≡ true → b ≡ true → (a && b) ≡ true
 both a b p q = rw (p, q) refl
 
 abbrev Keeps : ℕ → Command → Type 0
-Keeps cid sent = line_fits (send_line cid sent) ≡ true
+Keeps cid sent = line_fits (send_line version.One cid sent) ≡ true
 
 kind_fits : (cid kind place value : ℕ) → cid ≤ 65535 → value ≤ 255 → Keeps cid (kind_command kind place value)
 kind_fits cid kind place value low small =
@@ -62,9 +64,14 @@ kind_fits cid kind place value low small =
     (rw (c0, c1, at0, at1) refl) (rw (c0, c1, lba0, lba1) refl) (rw (c0, c1, set0, set1) refl)
 
 -- a command of the load keeps the limits of its line
-pub command_fits : (cid word : ℕ) → cid < 16 → line_fits (send_line cid (word_command word)) ≡ true
+pub command_fits : (cid word : ℕ) → cid < 16 → line_fits (send_line version.One cid (word_command word)) ≡ true
 command_fits cid word low =
     kind_fits cid (word % 8) (word / 8 % 65536) (word / 2 ^ 32 % 256) (omega arith) (omega arith)
+
+-- and names no queue but the one
+pub command_names : (cid word : ℕ) → names_queues 1 (send_line version.One cid (word_command word)).values ≡ true
+command_names cid word =
+    of_kinds (λ sent. names_queues 1 (send_line version.One cid sent).values ≡ true) (word % 8) (word / 8 % 65536) (word / 2 ^ 32 % 256) refl refl refl refl refl refl refl refl
 
 pub take_fits : (cid : ℕ) → cid < 16 → line_fits (take_line cid) ≡ true
 take_fits cid low = rw (below 0 cid (omega arith), below cid 65535 (omega arith)) refl
@@ -84,7 +91,7 @@ bytes_sized : (count value : ℕ) → value < 256 → AreBytes (same_bytes count
 unfolding same_bytes
 bytes_sized count value small = All-replicate (λ b. b < 256) count value small
 
-kind_sized : (cid kind place value : ℕ) → cid < 16 → value < 256 → Sized (send_line cid (kind_command kind place value)).values
+kind_sized : (cid kind place value : ℕ) → cid < 16 → value < 256 → Sized (send_line version.One cid (kind_command kind place value)).values
 kind_sized cid kind place value low small =
     let c : cid < 2 ^ 64 = omega arith in
     let lba : place % 64 < 2 ^ 64 = omega arith in
@@ -98,7 +105,7 @@ kind_sized cid kind place value low small =
     let many : 512 < 2 ^ 64 = omega arith in
     let most : 1024 < 2 ^ 64 = omega arith in
     let listed : 0 < 1 = omega arith in
-    of_kinds (λ sent. Sized (send_line cid sent).values) kind place value
+    of_kinds (λ sent. Sized (send_line version.One cid sent).values) kind place value
     (more c (more one (more lba (more one none))))
     (more c (more one (more lba (more (bytes_sized 512 value small) none))))
     (more c (more one (more at (more few none))))
@@ -108,7 +115,7 @@ kind_sized cid kind place value low small =
     (more c (more one (more lba (more (listed, All-cons IsSizedSource (source.Mem 1 (place % 64512) 512) [] (one, at, many) (All-nil IsSizedSource)) none))))
     (more c (more zero (more set (more zero (more zero (more some none))))))
 
-pub command_sized : (cid word : ℕ) → cid < 16 → IsSizedLine (send_line cid (word_command word))
+pub command_sized : (cid word : ℕ) → cid < 16 → IsSizedLine (send_line version.One cid (word_command word))
 command_sized cid word low = (kind_sized cid (word % 8) (word / 8 % 65536) (word / 2 ^ 32 % 256) low (omega arith)).all
 
 pub take_sized : (cid : ℕ) → cid < 16 → IsSizedLine (take_line cid)

@@ -10,18 +10,19 @@ use Rattle.cp_base.specs.declared.region.SpaceId.TheVariants as space
 use Rattle.cp_base.specs.declared.commands.Command.{Command}
 use Rattle.script_line.specs.declared.fault.TextCause.{TextCause}
 use Rattle.script_line.specs.declared.kind.LineKind.TheVariants as line
-use Rattle.script_line.specs.declared.limits.TheConstants.{VERSION_1}
 use Rattle.script_line.specs.Fits.{line_fits}
 use Rattle.script_line.specs.Line.{Line, send_line}
 use Rattle.script_line.specs.Reading.{◌>>=◌}
 use Rattle.script_line.specs.Sized.{AreSized, IsSizedLine}
+use Rattle.script_line.specs.declared.version.Version.TheVariants as version
+use Rattle.script_cmds.specs.declared.form.Form.{Form}
 use Rattle.script_cmds.specs.declared.progress.Progress.{Progress}
 use Rattle.script_cmds.specs.declared.progress.Stage.TheVariants as stage
 use Rattle.script_cmds.specs.Fault.{after_lines, judged}
 use Rattle.script_cmds.specs.Progress.{start}
 use Rattle.script_cmds.specs.Text.{numbers_line}
 use Rattle.load_maker.specs.Load.{device_lines, host_line, host_part, host_turns, load_lines, ready_lines, seed_word, take_line, turn_lines, turn_takes, word_command, work_lines}
-use Rattle.load_maker.proofs.Fits.{command_fits, command_sized, take_fits, take_sized}
+use Rattle.load_maker.proofs.Fits.{command_fits, command_names, command_sized, take_fits, take_sized}
 use Rattle.load_maker.proofs.Turns.{own_lines}
 
 -- ---- lines after lines
@@ -44,19 +45,24 @@ after_more (x ∷ xs) ys p m q a b = then_more (judged p x) xs ys m q (λ s h. a
 abbrev pub load_device : Configuration
 load_device = with_size (with_size (bare 512 16 1000) (space.Nvm 1) 64) (space.Mem 1) 65536
 
+-- version 1
+abbrev pub one_queue : Form
+one_queue = record { version = version.One; queues = 1 }
+
 -- in the part of a host of the second phase, after so many sends
 abbrev pub working : ℕ → ℕ → Progress
-working host sends = record { stage = stage.InPart host; limits = VERSION_1; config = load_device; sends = sends; phases = 2; shows = 0 }
+working host sends = record { stage = stage.InPart host; form = one_queue; config = load_device; sends = sends; phases = 2; shows = 0 }
 
 if_held : {A : Type 0} (test : Bool) (a b : A) → test ≡ true → (if test then a else b) ≡ a
 if_held test a b h = rw h refl
 
 send_runs : (host sends cid word : ℕ) → cid < 16 → sends < 16384
-    → after_lines (working host sends) (send_line cid (word_command word) ∷ []) ≡ Ok (working host (sends + 1))
+    → after_lines (working host sends) (send_line version.One cid (word_command word) ∷ []) ≡ Ok (working host (sends + 1))
 send_runs host sends cid word low few =
     let fits = command_fits cid word low in
     let room : nat_lt sends 16384 ≡ true = lt-ltb _ _ few in
-    rw (fits, room) refl
+    let names = command_names cid word in
+    rw (fits, room, names) refl
 
 take_runs : (host sends cid : ℕ) → cid < 16 → after_lines (working host sends) (take_line cid ∷ []) ≡ Ok (working host sends)
 take_runs host sends cid low = let fits = take_fits cid low in rw fits refl
@@ -69,7 +75,7 @@ takes_run host sends number false = take_runs host sends (number % 16) (omega ar
 turn_runs : (host sends number word : ℕ) → sends < 16384
     → after_lines (working host sends) (turn_lines number (word_command word)) ≡ Ok (working host (sends + 1))
 turn_runs host sends number word few =
-    after_more (turn_takes number) (send_line (number % 16) (word_command word) ∷ []) (working host sends) (working host sends) (working host (sends + 1))
+    after_more (turn_takes number) (send_line version.One (number % 16) (word_command word) ∷ []) (working host sends) (working host sends) (working host (sends + 1))
     (takes_run host sends number (nat_lt number 16)) (send_runs host sends (number % 16) word (omega arith) few)
 
 -- after the first commands, of which so many are the host's

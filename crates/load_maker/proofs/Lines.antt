@@ -11,6 +11,7 @@ use Rattle.script_line.specs.Line.{Line, fields_of, line_text, send_line}
 use Rattle.script_line.specs.Sized.{AreSized, IsLine, IsSized, IsSizedLine}
 use Rattle.script_line.proofs.ReadAgain.{line_lacks}
 use Rattle.script_line.proofs.Sends.{send_shape}
+use Rattle.script_line.specs.declared.version.Version.TheVariants as version
 use Rattle.script_cmds.specs.Fault.{newlines}
 use Rattle.script_cmds.specs.Text.{lines_text, numbers_line}
 use Rattle.load_maker.specs.Load.{device_lines, host_line, host_part, host_turns, load_lines, load_text, ready_lines, seed_word, take_line, turn_lines, turn_takes, word_command}
@@ -51,9 +52,9 @@ takes_counted number false = one (take_line (number % 16)) (record { shape = tt;
 
 own_counted : (number word : ℕ) (test : Bool) → IsCounted (if test then turn_lines number (word_command word) else [])
 own_counted number word true =
-    let sent = send_line (number % 16) (word_command word) in
+    let sent = send_line version.One (number % 16) (word_command word) in
     join (turn_takes number) (sent ∷ []) (takes_counted number (nat_lt number 16))
-    (one sent (record { shape = send_shape (number % 16) (word_command word); sized = command_sized (number % 16) word (omega arith) }))
+    (one sent (record { shape = send_shape version.One (number % 16) (word_command word); sized = command_sized (number % 16) word (omega arith) }))
 own_counted number word false = refl
 
 turns_counted : (seed host n : ℕ) → IsCounted (host_turns seed host n)
@@ -75,7 +76,7 @@ takes_few number false = omega arith
 
 own_few : (number word : ℕ) (test : Bool) → length (if test then turn_lines number (word_command word) else []) ≤ 2
 own_few number word true =
-    let sent = send_line (number % 16) (word_command word) in
+    let sent = send_line version.One (number % 16) (word_command word) in
     omega (arith, length-append (turn_takes number) (sent ∷ []), takes_few number (nat_lt number 16))
 own_few number word false = omega arith
 

@@ -8,6 +8,7 @@ use Rattle.cp_base.specs.declared.commands.Command.{Command}
 use Rattle.script_line.specs.declared.kind.LineKind.TheVariants as line
 use Rattle.script_line.specs.Line.{Line, send_line}
 use Rattle.script_line.specs.Sized.{AreSized}
+use Rattle.script_line.specs.declared.version.Version.TheVariants as version
 use Rattle.script_cmds.specs.declared.item.Item.{Item}
 use Rattle.script_cmds.specs.declared.item.Item.TheVariants as item
 use Rattle.script_cmds.specs.declared.item.HostPart.{HostPart}
@@ -19,7 +20,7 @@ use Rattle.script_cmds.specs.Progress.{start}
 use Rattle.script_cmds.specs.Text.{item_line, item_lines, lines_of, lines_text, numbers_line, script_text}
 use Rattle.script_cmds.proofs.OneText.{accepted, one_text}
 use Rattle.load_maker.specs.Load.{device_lines, first_set, host_line, host_turns, load_lines, load_text, ready_lines, ready_slot, second_set, seed_word, take_line, turn_lines, whole_program, word_command}
-use Rattle.load_maker.proofs.Kept.{load_device, load_runs}
+use Rattle.load_maker.proofs.Kept.{load_device, load_runs, one_queue}
 use Rattle.load_maker.proofs.Sizes.{load_sized}
 
 -- a command is sent
@@ -56,6 +57,7 @@ work_parts seed n =
 
 abbrev pub load_script : ℕ → ℕ → Script
 load_script seed n = record {
+  form = one_queue;
   config = load_device;
   phases = phase_of (part_of 1 ready_items ∷ []) ∷ phase_of (work_parts seed n) ∷ [];
   shows = [];
@@ -63,30 +65,30 @@ load_script seed n = record {
 
 -- ---- its lines
 
-item_lines-append : (xs ys : List Item) → item_lines (xs ++ ys) ≡ item_lines xs ++ item_lines ys
+item_lines-append : (xs ys : List Item) → item_lines one_queue (xs ++ ys) ≡ item_lines one_queue xs ++ item_lines one_queue ys
 item_lines-append [] ys = refl
-item_lines-append (x ∷ xs) ys = ap (λ (t : List Line). item_line x ∷ t) (item_lines-append xs ys)
+item_lines-append (x ∷ xs) ys = ap (λ (t : List Line). item_line one_queue x ∷ t) (item_lines-append xs ys)
 
 takes_lines : (number : ℕ) (test : Bool)
-    → item_lines (if test then [] else item.Take (number % 16) ∷ []) ≡ (if test then [] else take_line (number % 16) ∷ [])
+    → item_lines one_queue (if test then [] else item.Take (number % 16) ∷ []) ≡ (if test then [] else take_line (number % 16) ∷ [])
 takes_lines number true = refl
 takes_lines number false = refl
 
-turn_items-lines : (number : ℕ) (sent : Command) → item_lines (turn_items number sent) ≡ turn_lines number sent
+turn_items-lines : (number : ℕ) (sent : Command) → item_lines one_queue (turn_items number sent) ≡ turn_lines number sent
 turn_items-lines number sent =
     item_lines-append (if nat_lt number 16 then [] else item.Take (number % 16) ∷ []) (sending (number % 16) sent ∷ [])
-    ∙ ap (λ (t : List Line). t ++ send_line (number % 16) sent ∷ []) (takes_lines number (nat_lt number 16))
+    ∙ ap (λ (t : List Line). t ++ send_line version.One (number % 16) sent ∷ []) (takes_lines number (nat_lt number 16))
 
 own_items-lines : (number : ℕ) (sent : Command) (test : Bool)
-    → item_lines (if test then turn_items number sent else []) ≡ (if test then turn_lines number sent else [])
+    → item_lines one_queue (if test then turn_items number sent else []) ≡ (if test then turn_lines number sent else [])
 own_items-lines number sent true = turn_items-lines number sent
 own_items-lines number sent false = refl
 
-host_items-lines : (seed host n : ℕ) → item_lines (host_items seed host n) ≡ host_turns seed host n
+host_items-lines : (seed host n : ℕ) → item_lines one_queue (host_items seed host n) ≡ host_turns seed host n
 host_items-lines seed host zero = refl
 host_items-lines seed host (suc n) =
     item_lines-append (host_items seed host n) (own_items seed host n)
-    ∙ ap (λ (t : List Line). t ++ item_lines (own_items seed host n)) (host_items-lines seed host n)
+    ∙ ap (λ (t : List Line). t ++ item_lines one_queue (own_items seed host n)) (host_items-lines seed host n)
     ∙ ap (λ (t : List Line). host_turns seed host n ++ t) (own_items-lines (n / 4) (word_command (seed_word seed n)) (n % 4 == host))
 
 regrouped : (a b c d : List Line) (x y z : Line)
@@ -101,7 +103,7 @@ with_parts a b c d =
 
 pub load_script-lines : (seed n : ℕ) → lines_of (load_script seed n) ≡ load_lines seed n
 load_script-lines seed n =
-    let i = λ (host : ℕ). item_lines (host_items seed host n) in
+    let i = λ (host : ℕ). item_lines one_queue (host_items seed host n) in
     let t = host_turns seed in
     ap (λ (a : List Line). with_parts a (i 1) (i 2) (i 3)) (host_items-lines seed 0 n)
     ∙ ap (λ (b : List Line). with_parts (t 0 n) b (i 2) (i 3)) (host_items-lines seed 1 n)

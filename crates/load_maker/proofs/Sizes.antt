@@ -5,10 +5,11 @@ use Rattle.std.specs.List.{list_all}
 use Rattle.std.proofs.lemmas.Bool.{and_parts, ltb-true}
 use Rattle.std.proofs.lemmas.List.Elements.{All-append, All-cons, All-nil}
 use Rattle.cp_base.specs.declared.lists.MemRange.{MemRange}
-use Rattle.script_line.specs.Field.{Value, Count, Data, Copied, Covered}
+use Rattle.script_line.specs.Field.{Value, Count, Queued, Data, Copied, Covered}
 use Rattle.script_line.specs.Line.{Line, send_line}
 use Rattle.script_line.specs.Sized.{AreSized, IsSized, IsSizedLine, IsSizedRange}
 use Rattle.script_line.specs.declared.kind.LineKind.TheVariants as line
+use Rattle.script_line.specs.declared.version.Version.TheVariants as version
 use Rattle.script_cmds.specs.Text.{numbers_line}
 use Rattle.load_maker.specs.Load.{device_lines, host_line, host_part, host_turns, load_lines, ready_lines, seed_word, take_line, turn_lines, turn_takes, word_command, work_lines}
 use Rattle.load_maker.proofs.Fits.{command_sized, take_sized}
@@ -27,6 +28,7 @@ is_sized_range range = nat_lt range.ns (2 ^ 64) && (nat_lt range.at (2 ^ 64) && 
 
 is_sized : Value → Bool
 is_sized (Count n) = nat_lt n (2 ^ 64)
+is_sized (Queued queue cid) = nat_lt queue (2 ^ 64) && nat_lt cid (2 ^ 64)
 is_sized (Data bytes) = list_all (λ b. nat_lt b 256) bytes
 is_sized (Copied sources) = false
 is_sized (Covered ranges) = nat_lt 0 (length ranges) && list_all is_sized_range ranges
@@ -41,6 +43,9 @@ range_sound range h =
 value_sound : (v : Value) → is_sized v ≡ true → IsSized v
 unfolding is_sized
 value_sound (Count n) h = ltb-true _ _ h
+value_sound (Queued queue cid) h =
+    let parts = and_parts (nat_lt queue (2 ^ 64)) (nat_lt cid (2 ^ 64)) h in
+    (ltb-true _ _ parts.0, ltb-true _ _ parts.1)
 value_sound (Data bytes) h = all_of (λ b. b < 256) (λ b. nat_lt b 256) (λ b t. ltb-true _ _ t) bytes h
 value_sound (Copied sources) h = absurd cc
 value_sound (Covered ranges) h =
@@ -71,8 +76,8 @@ takes_sized number false = one (take_line (number % 16)) (take_sized (number % 1
 
 turn_sized : (number word : ℕ) → AreSized (turn_lines number (word_command word))
 turn_sized number word =
-    join (turn_takes number) (send_line (number % 16) (word_command word) ∷ []) (takes_sized number (nat_lt number 16))
-    (one (send_line (number % 16) (word_command word)) (command_sized (number % 16) word (omega arith)))
+    join (turn_takes number) (send_line version.One (number % 16) (word_command word) ∷ []) (takes_sized number (nat_lt number 16))
+    (one (send_line version.One (number % 16) (word_command word)) (command_sized (number % 16) word (omega arith)))
 
 own_sized : (number word : ℕ) (test : Bool) → AreSized (if test then turn_lines (number / 4) (word_command word) else [])
 own_sized number word true = turn_sized (number / 4) word

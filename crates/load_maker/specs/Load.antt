@@ -10,6 +10,7 @@ use Rattle.cp_base.specs.declared.lists.MemRange.{MemRange}
 use Rattle.script_line.specs.declared.kind.LineKind.TheVariants as line
 use Rattle.script_line.specs.declared.kind.SpaceKind.TheVariants as space_kind
 use Rattle.script_line.specs.Line.{Line, send_line}
+use Rattle.script_line.specs.declared.version.Version.TheVariants as version
 use Rattle.script_cmds.specs.Text.{lines_text, numbers_line}
 
 -- the state of the generator that this seed gives, after so many words
@@ -71,14 +72,14 @@ abbrev pub word_command : ℕ → Command
 word_command word = kind_command (word % 8) (word / 8 % 65536) (word / 2 ^ 32 % 256)
 
 abbrev pub take_line : ℕ → Line
-take_line cid = numbers_line line.Take (cid ∷ [])
+take_line cid = numbers_line (line.Take version.One) (cid ∷ [])
 
 abbrev pub host_line : ℕ → Line
 host_line host = numbers_line line.Host (host ∷ [])
 
 -- a command and the take of its reply
 abbrev pub done_lines : ℕ → Command → List Line
-done_lines cid sent = send_line cid sent ∷ take_line cid ∷ []
+done_lines cid sent = send_line version.One cid sent ∷ take_line cid ∷ []
 
 -- What a host takes before its command of a number, from 0 on: there are sixteen identifiers, so from command 16 on
 -- the reply to the command sixteen before.
@@ -87,7 +88,7 @@ turn_takes number = if nat_lt number 16 then [] else take_line (number % 16) ∷
 
 -- a host's command under its number
 abbrev pub turn_lines : ℕ → Command → List Line
-turn_lines number sent = turn_takes number ++ send_line (number % 16) sent ∷ []
+turn_lines number sent = turn_takes number ++ send_line version.One (number % 16) sent ∷ []
 
 -- what a host, 0 to 3, does of the first commands: every fourth command is this host's
 abbrev pub host_turns : ℕ → ℕ → ℕ → List Line
@@ -102,7 +103,7 @@ host_part seed commands host = host_line (host + 1) ∷ host_turns seed host com
 -- the header and the two namespaces
 abbrev pub device_lines : List Line
 device_lines =
-    numbers_line line.Header (512 ∷ 16 ∷ 1000 ∷ []) ∷ numbers_line (line.Namespace space_kind.Nvm) (1 ∷ 64 ∷ [])
+    numbers_line (line.Header version.One) (512 ∷ 16 ∷ 1000 ∷ []) ∷ numbers_line (line.Namespace space_kind.Nvm) (1 ∷ 64 ∷ [])
     ∷ numbers_line (line.Namespace space_kind.Mem) (1 ∷ 65536 ∷ []) ∷ []
 
 -- the first phase: host 1 makes the device ready

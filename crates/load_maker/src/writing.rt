@@ -16,7 +16,7 @@ use rand_core::SeedableRng;
 use rand_core::utils::NextWord;
 use rand_xoshiro::SplitMix64;
 use script_line::FieldContent::Count;
-use script_line::{LineKind, SpaceKind, push_line, push_send};
+use script_line::{LineKind, SpaceKind, Version, push_line, push_send};
 use std::alloc::Global;
 
 // The hosts of the second phase.
@@ -73,7 +73,7 @@ fn push_device(out: &mut Bytes) -> Result<(), NoMemory>
 {
     push_line(
         out,
-        LineKind::Header,
+        LineKind::Header(Version::One),
         &[Count(512), Count(16), Count(1_000)],
     )?;
     push_line(
@@ -140,8 +140,8 @@ fn push_program(alloc: Global, out: &mut Bytes) -> Result<(), NoMemory>
 fn push_done(out: &mut Bytes, cid: u32, sent: &Command) -> Result<(), NoMemory>
     ensures { OnOk result (PrintsLines (done_lines cid sent.now) out.old.items out.new.items) }
 {
-    push_send(out, cid, sent)?;
-    push_number(out, LineKind::Take, cid)
+    push_send(out, Version::One, cid, sent)?;
+    push_number(out, LineKind::Take(Version::One), cid)
 }
 
 // Adds the second phase.
@@ -212,7 +212,7 @@ fn push_turn(out: &mut Bytes, number: u32, sent: &Command) -> Result<(), NoMemor
     ensures { OnOk result (PrintsLines (turn_lines number sent.now) out.old.items out.new.items) }
 {
     push_turn_take(out, number)?;
-    push_send(out, number % IDENTIFIERS, sent)?;
+    push_send(out, Version::One, number % IDENTIFIERS, sent)?;
     Ok(())
 }
 
@@ -223,5 +223,5 @@ fn push_turn_take(out: &mut Bytes, number: u32) -> Result<(), NoMemory>
     if number < IDENTIFIERS {
         return Ok(());
     }
-    push_number(out, LineKind::Take, number % IDENTIFIERS)
+    push_number(out, LineKind::Take(Version::One), number % IDENTIFIERS)
 }

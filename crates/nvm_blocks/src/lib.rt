@@ -2,7 +2,5 @@
 #![tactic(auto)]
 
 mod ranges;
-#[cfg(test)]
-mod tests;
 
 pub use ranges::{blocks_to_range, write_to_range};

@@ -1,12 +1,17 @@
+pub mod Checked
+pub mod CutShort
 pub mod Endings
 pub mod Fronts
 pub mod HexCode
 pub mod Inputs
+pub mod Judged
 pub mod OneOutput
+pub mod Parted
 pub mod Printed
 pub mod Short
 pub mod Shows
 pub mod SummedUp
 pub mod Told
 pub mod Unmade
+pub mod Upgrading
 pub mod Written

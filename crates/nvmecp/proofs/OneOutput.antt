@@ -1,6 +1,6 @@
 -- One question and one input have one output.
-use Rattle.std.proofs.Common.{◌≡◌, ℕ, ◌≤◌, List, ◌++◌, length, codes, Option, Some, None, Result, Ok, Err, sym, ap, ◌∙◌, subst, arith}
-use Rattle.std.specs.Prelude.{unwrap_or}
+use Rattle.std.proofs.Common.{◌≡◌, ℕ, ◌≤◌, List, ◌++◌, length, codes, Option, Some, None, Result, Ok, Err, refl, sym, ap, ◌∙◌, subst, arith}
+use Rattle.std.specs.Prelude.{IsOk, unwrap_or}
 use Rattle.std.specs.List.{AllByRecursion, concat}
 use Rattle.std.proofs.lemmas.Bool.{false≢true}
 use Rattle.bpf_model.specs.Walk.{bad_place}
@@ -15,20 +15,23 @@ use Rattle.script_cmds.specs.declared.item.Phase.{Phase}
 use Rattle.cp_base.specs.Configuration.{Configuration}
 use Rattle.history_model.specs.Legal.{IsLegal}
 use Rattle.history_model.specs.Plain.{plain_phases}
-use Rattle.history_model.specs.Plan.{plan_of}
+use Rattle.history_model.specs.Plan.{PlanFault, plan_of}
 use Rattle.history_model.proofs.OneHistory.{one-history}
 use Rattle.trail_model.specs.Lawful.{Trail, world_of}
 use Rattle.trail_model.specs.World.{first_world}
 use Rattle.schedule_model.specs.Schedule.{HasMemory, IsScheduled}
 use Rattle.schedule_model.proofs.Settled.{settled}
 use Rattle.nvmecp.specs.Lines.{ended_lines, shown_lines}
+use Rattle.nvmecp.proofs.Parted.{one_script, parted_or_none}
 use Rattle.nvmecp.proofs.Told.{printed_of}
 use Rattle.nvmecp.specs.Asm.{IsAssembly, TellsAssembly}
+use Rattle.nvmecp.specs.Check.{NoHistory, NoScript, OfParts, TellsLegal, TellsNone}
 use Rattle.nvmecp.specs.Code.{code_in, hex_line}
 use Rattle.nvmecp.specs.Dis.{BadCode, IsDisassembly, NotHex, TellsCode, TooMuch}
 use Rattle.nvmecp.specs.Refusal.{breach_line, fault_line, place_line, refusal_line}
 use Rattle.nvmecp.specs.Step.{Faulty, IsHistory, IsPrintOf, IsTextOf, TellsScript, Unplanned}
 use Rattle.nvmecp.specs.Task.{IsRefusal, Rejected, Task, TooLong}
+use Rattle.nvmecp.specs.Upgrade.{IsUpgrade}
 use Rattle.nvmecp.specs.Words.{task_of}
 use Rattle.nvmecp.specs.declared.words.Asked.{Asked}
 use Rattle.nvmecp.specs.declared.words.Asked.TheVariants as asked
@@ -88,6 +91,15 @@ tells_script input one other (Unplanned script breach none read planned told) (F
 tells_script input one other (Unplanned script breach none read planned told) (Unplanned script' breach' none' read' planned' told') =
     told ∙ ap breach_line (one_breach script script' breach breach' (same_lines script script' input read read') planned planned') ∙ sym told'
 
+-- what is told of the script that stands before the first empty line
+tells_none : (input one other : List ℕ) → TellsNone input one → TellsNone input other → one ≡ other
+tells_none input one other (NoHistory none is) (NoHistory none' is') = is ∙ sym is'
+tells_none input one other (NoHistory none is) (NoScript parts) = absurd (parted_or_none input parts.script parts.history parts.parted none)
+tells_none input one other (NoScript parts) (NoHistory none' is') = absurd (parted_or_none input parts.script parts.history parts.parted none')
+tells_none input one other (NoScript parts) (NoScript parts') =
+    tells_script parts.script one other parts.holds
+    (subst (λ (text : List ℕ). TellsScript text other) (sym (one_script input parts.script parts.history parts'.script parts'.history parts.parted parts'.parted)) parts'.holds)
+
 refusals_agree : (task : Task) (input one other : List ℕ) → ((s t : List ℕ) → task.Refuses input s → task.Refuses input t → s ≡ t)
     → IsRefusal task input one → IsRefusal task input other → one ≡ other
 refusals_agree task input one other agree (TooLong long is) (TooLong long' is') = is ∙ sym is'
@@ -99,6 +111,8 @@ pub refused : (word : Asked) (input one other : List ℕ) → IsRefusal (task_of
 refused (asked.Step workers choices) input one other a b = refusals_agree (task_of (asked.Step workers choices)) input one other (tells_script input) a b
 refused asked.Asm input one other a b = refusals_agree (task_of asked.Asm) input one other (tells_assembly input) a b
 refused asked.Dis input one other a b = refusals_agree (task_of asked.Dis) input one other (tells_code input) a b
+refused asked.Upgrade input one other a b = refusals_agree (task_of asked.Upgrade) input one other (tells_script input) a b
+refused asked.Check input one other a b = refusals_agree (task_of asked.Check) input one other (tells_none input) a b
 
 -- ---- no input is both answered and refused
 
@@ -122,6 +136,28 @@ planned_or_told workers choices input one other a (Faulty fault is told) = not_b
 planned_or_told workers choices input one other a (Unplanned script breach none read planned told) =
     plan_or_fault a.script script a.print.plan breach (same_lines a.script script input a.read read) a.print.planned planned
 
+-- a result that is there
+the_plan : {A : Type 0} (r : Result A PlanFault) → IsOk r → (x : A) × (r ≡ Ok x)
+the_plan (Ok x) ok = (x, refl)
+the_plan (Err f) ok = absurd cc
+
+upgraded_or_told : (input one other : List ℕ) → IsUpgrade input one → TellsScript input other → ⊥
+upgraded_or_told input one other a (Faulty fault is told) = not_both fault (first_fault input) a.faultless is
+upgraded_or_told input one other a (Unplanned script breach none read planned told) =
+    let plan = the_plan (plan_of a.script) a.planned in
+    plan_or_fault a.script script plan.0 breach (same_lines a.script script input a.read read) plan.1 planned
+
+legal_or_script_told : (text history one other : List ℕ) → TellsLegal one text history → TellsScript text other → ⊥
+legal_or_script_told text history one other a (Faulty fault is told) = not_both fault (first_fault text) a.of.faultless is
+legal_or_script_told text history one other a (Unplanned script breach none read planned told) =
+    plan_or_fault a.of.script script a.of.plan breach (same_lines a.of.script script text a.of.read read) a.of.planned planned
+
+legal_or_told : (input one other : List ℕ) → OfParts (TellsLegal one) input → TellsNone input other → ⊥
+legal_or_told input one other a (NoHistory none is) = parted_or_none input a.script a.history a.parted none
+legal_or_told input one other a (NoScript parts) =
+    legal_or_script_told a.script a.history one other a.holds
+    (subst (λ (text : List ℕ). TellsScript text other) (one_script input parts.script parts.history a.script a.history parts.parted a.parted) parts.holds)
+
 ends_once : (task : Task) (input one other : List ℕ) → length input ≤ task.limit → ((t : List ℕ) → task.Refuses input t → ⊥) → IsRefusal task input other → ⊥
 ends_once task input one other short never (TooLong long is) = absurd (omega (arith, short, long))
 ends_once task input one other short never (Rejected within told) = never other told
@@ -131,6 +167,8 @@ one_end (asked.Step workers choices) input one other short a b =
     ends_once (task_of (asked.Step workers choices)) input one other short (λ t told. planned_or_told workers choices input one t a told) b
 one_end asked.Asm input one other short a b = ends_once (task_of asked.Asm) input one other short (λ t told. assembled_or_told input one t a told) b
 one_end asked.Dis input one other short a b = ends_once (task_of asked.Dis) input one other short (λ t told. disassembled_or_told input one t a told) b
+one_end asked.Upgrade input one other short a b = ends_once (task_of asked.Upgrade) input one other short (λ t told. upgraded_or_told input one t a told) b
+one_end asked.Check input one other short a b = ends_once (task_of asked.Check) input one other short (λ t told. legal_or_told input one t a told) b
 
 -- ---- a text tells its history
 

@@ -25,7 +25,7 @@ use Rattle.replay_print.specs.Lines.{summary_lines}
 use Rattle.replay_print.specs.declared.summary.Summary.{Summary}
 use Rattle.script_plan.specs.Meant.{meant}
 use Rattle.script_plan.proofs.Counting.{length-sends_of}
-use Rattle.script_plan.proofs.SizedSends.{script_sized}
+use Rattle.script_plan.proofs.SizedSends.{few_of, script_sized}
 use Rattle.trail_model.specs.Lawful.{Trail, world_of}
 use Rattle.trail_model.specs.World.{World, home}
 use Rattle.trail_model.proofs.Sound.{sound-world}
@@ -45,17 +45,17 @@ use Rattle.nvmecp.proofs.SummedUp.{summary_is}
 use Rattle.nvmecp.proofs.Told.{printed_of, short_told}
 
 -- the definition's plan, where what is planned has a meaning
-record IsGiven (r : Result (List Phase) PlanFault) (plain : List (List PlainPart)) : Type 0 where
-  given : List Phase
-  is : r ≡ Ok given
-  same : plain_phases given ≡ plain
+pub record IsGiven (r : Result (List Phase) PlanFault) (plain : List (List PlainPart)) : Type 0 where
+  pub given : List Phase
+  pub is : r ≡ Ok given
+  pub same : plain_phases given ≡ plain
 
-has_plan : (r : Result (List Phase) PlanFault) (plain : List (List PlainPart)) → meant plain_phase r ≡ Ok plain → IsGiven r plain
+pub has_plan : (r : Result (List Phase) PlanFault) (plain : List (List PlainPart)) → meant plain_phase r ≡ Ok plain → IsGiven r plain
 has_plan (Ok given) plain is = record { given = given; is = refl; same = cc }
 has_plan (Err fault) plain is = absurd (false≢true (ap is_ok is))
 
 -- a history is legal for each plan that sends the same commands
-legal_alike : (c : Configuration) (plan other : List Phase) (history : List Entry) → sends_of other ≡ sends_of plan → IsLegal c plan history → IsLegal c other history
+pub legal_alike : (c : Configuration) (plan other : List Phase) (history : List Entry) → sends_of other ≡ sends_of plan → IsLegal c plan history → IsLegal c other history
 legal_alike c plan other history same legal = record {
   each_once = subst (λ (xs : List Sent). IsPermutation (map (λ (entry : Entry). entry.sent) history) xs) (sym same) legal.each_once;
   in_order = legal.in_order;
@@ -125,7 +125,7 @@ pub few_commands : (script : Script) (phases : List Phase) (commands : ℕ) → 
     → sends_of phases ≡ sends_of script.phases → commands ≤ MAX_COMMANDS
 few_commands script phases commands kept is same =
     let count : length (sends_of phases) ≡ length (sends_of script.phases) = ap length same in
-    omega (arith, is, count, length-sends_of script.phases, few_sends script kept)
+    omega (arith, is, count, length-sends_of script.phases, few_sends script kept, few_of script.form.version)
 
 -- no line of it is too long
 pub short_of : (script : Script) (phases : List Phase) (workers choices : ℕ) (f : Finished) → AreSized (lines_of script) → KeepsOrderAndLimits script

@@ -1,5 +1,5 @@
 -- The shows of a script that keeps its order and limits lie inside its namespaces.
-use Rattle.std.proofs.Common.{◌≡◌, ℕ, suc, ◌+◌, ◌≤◌, nat_le, nat_lt, ◌==◌, Bool, true, false, ◌&&◌, List, [], ◌∷◌, ◌++◌, length, replicate, Ok, Err, is_ok, if◌then◌else◌, sym, refl, ap, subst, ◌∙◌, arith}
+use Rattle.std.proofs.Common.{◌≡◌, ℕ, suc, ◌+◌, ◌*◌, ◌≤◌, nat_le, nat_lt, ◌==◌, Bool, true, false, ◌&&◌, List, [], ◌∷◌, ◌++◌, length, replicate, Ok, Err, is_ok, if◌then◌else◌, sym, refl, ap, subst, ◌∙◌, arith}
 use Rattle.std.specs.Prelude.{slice_set, unwrap_or}
 use Rattle.std.specs.List.{AllByRecursion}
 use Rattle.std.proofs.Math.Seq.{set-append_seam}
@@ -10,6 +10,7 @@ use Rattle.cp_base.specs.Configuration.{Configuration, bare, size_of}
 use Rattle.cp_base.specs.declared.region.SpaceId.{SpaceId}
 use Rattle.cp_base.specs.declared.region.SpaceId.TheVariants as space
 use Rattle.script_line.specs.declared.fault.TextCause.TheVariants as cause
+use Rattle.script_cmds.specs.declared.form.Form.{Form}
 use Rattle.script_cmds.specs.declared.item.Item.{Item}
 use Rattle.script_cmds.specs.declared.item.Item.TheVariants as item
 use Rattle.script_cmds.specs.declared.item.HostPart.{HostPart}
@@ -22,12 +23,15 @@ use Rattle.cp_base.specs.declared.limits.TheConstants.{MAX_TRANSFER}
 use Rattle.script_cmds.specs.declared.progress.Progress.{Progress}
 use Rattle.script_cmds.specs.declared.script.Script.{Script}
 use Rattle.script_line.specs.Reading.{◌>>=◌}
+use Rattle.script_line.specs.Versions.{limits_of}
+use Rattle.script_line.specs.declared.version.Version.{Version}
+use Rattle.script_line.specs.declared.version.Version.TheVariants as version
 use Rattle.script_cmds.specs.Fault.{after_lines}
 use Rattle.script_cmds.specs.Kept.{KeepsOrderAndLimits}
 use Rattle.script_line.specs.Line.{Line, counts}
-use Rattle.script_cmds.specs.Progress.{advanced, is_in_order, is_within_limits, start}
-use Rattle.script_cmds.specs.Text.{configuration_lines, item_line, item_lines, numbers_line, part_lines, phase_lines, region_line, show_line, show_lines, size_lines}
-use Rattle.history_model.proofs.Every.{every-All}
+use Rattle.script_cmds.specs.Progress.{advanced, header_depth, header_queues, is_in_order, is_within_limits, start}
+use Rattle.script_cmds.specs.Text.{configuration_lines, header_line, header_numbers, item_line, item_lines, numbers_line, part_lines, phase_lines, region_line, show_line, show_lines, size_lines}
+use Rattle.history_model.proofs.Every.{every-All, every-weaker}
 use Rattle.nvmecp.specs.Shown.{AreInside}
 
 -- a line that keeps its limits, and what comes after it
@@ -43,7 +47,7 @@ goes_by p l lines true false e h = absurd (false≢true h)
 goes_by p l lines false limits e h = absurd (false≢true h)
 
 goes : (p : Progress) (l : Line) (lines : List Line) → is_ok (after_lines p (l ∷ lines)) ≡ true → Goes p l lines
-goes p l lines h = goes_by p l lines (is_in_order p.stage l.kind l.values) (is_within_limits p l) refl h
+goes p l lines h = goes_by p l lines (is_in_order p.form.version p.stage l.kind l.values) (is_within_limits p l) refl h
 
 -- some progress with this configuration, behind which these lines go on
 record Then (c : Configuration) (rest : List Line) : Type 0 where
@@ -53,33 +57,33 @@ record Then (c : Configuration) (rest : List Line) : Type 0 where
 
 -- Lines that leave the configuration.
 
-after_items : (p : Progress) (items : List Item) (rest : List Line) → is_ok (after_lines p (item_lines items ++ rest)) ≡ true → Then p.config rest
-after_items p [] rest h = record { progress = p; config = refl; ok = h }
-after_items p (item.Send cid command ∷ items) rest h =
-    let l : Line = item_line (item.Send cid command) in
-    after_items (advanced p l.kind l.values) items rest (goes p l (item_lines items ++ rest) h).rest
-after_items p (item.Take cid ∷ items) rest h =
-    let l : Line = item_line (item.Take cid) in
-    after_items (advanced p l.kind l.values) items rest (goes p l (item_lines items ++ rest) h).rest
+after_items : (f : Form) (p : Progress) (items : List Item) (rest : List Line) → is_ok (after_lines p (item_lines f items ++ rest)) ≡ true → Then p.config rest
+after_items f p [] rest h = record { progress = p; config = refl; ok = h }
+after_items f p (item.Send cid command ∷ items) rest h =
+    let l : Line = item_line f (item.Send cid command) in
+    after_items f (advanced p l.kind l.values) items rest (goes p l (item_lines f items ++ rest) h).rest
+after_items f p (item.Take cid ∷ items) rest h =
+    let l : Line = item_line f (item.Take cid) in
+    after_items f (advanced p l.kind l.values) items rest (goes p l (item_lines f items ++ rest) h).rest
 
-after_parts : (p : Progress) (parts : List HostPart) (rest : List Line) → is_ok (after_lines p (part_lines parts ++ rest)) ≡ true → Then p.config rest
-after_parts p [] rest h = record { progress = p; config = refl; ok = h }
-after_parts p (part ∷ parts) rest h =
+after_parts : (f : Form) (p : Progress) (parts : List HostPart) (rest : List Line) → is_ok (after_lines p (part_lines f parts ++ rest)) ≡ true → Then p.config rest
+after_parts f p [] rest h = record { progress = p; config = refl; ok = h }
+after_parts f p (part ∷ parts) rest h =
     let host : Line = numbers_line line.Host (part.host ∷ []) in
-    let first = (goes p host ((item_lines part.items ++ part_lines parts) ++ rest) h).rest in
-    let joined = append_assoc (item_lines part.items) (part_lines parts) rest in
-    let items = after_items (advanced p line.Host host.values) part.items (part_lines parts ++ rest) (subst (λ (ls : List Line). is_ok (after_lines (advanced p line.Host host.values) ls) ≡ true) joined first) in
-    let more = after_parts items.progress parts rest items.ok in
+    let first = (goes p host ((item_lines f part.items ++ part_lines f parts) ++ rest) h).rest in
+    let joined = append_assoc (item_lines f part.items) (part_lines f parts) rest in
+    let items = after_items f (advanced p line.Host host.values) part.items (part_lines f parts ++ rest) (subst (λ (ls : List Line). is_ok (after_lines (advanced p line.Host host.values) ls) ≡ true) joined first) in
+    let more = after_parts f items.progress parts rest items.ok in
     record { progress = more.progress; config = more.config ∙ items.config; ok = more.ok }
 
-after_phases : (p : Progress) (phases : List Phase) (rest : List Line) → is_ok (after_lines p (phase_lines phases ++ rest)) ≡ true → Then p.config rest
-after_phases p [] rest h = record { progress = p; config = refl; ok = h }
-after_phases p (phase ∷ phases) rest h =
+after_phases : (f : Form) (p : Progress) (phases : List Phase) (rest : List Line) → is_ok (after_lines p (phase_lines f phases ++ rest)) ≡ true → Then p.config rest
+after_phases f p [] rest h = record { progress = p; config = refl; ok = h }
+after_phases f p (phase ∷ phases) rest h =
     let head : Line = numbers_line line.Phase [] in
-    let first = (goes p head ((part_lines phase.hosts ++ phase_lines phases) ++ rest) h).rest in
-    let joined = append_assoc (part_lines phase.hosts) (phase_lines phases) rest in
-    let parts = after_parts (advanced p line.Phase head.values) phase.hosts (phase_lines phases ++ rest) (subst (λ (ls : List Line). is_ok (after_lines (advanced p line.Phase head.values) ls) ≡ true) joined first) in
-    let more = after_phases parts.progress phases rest parts.ok in
+    let first = (goes p head ((part_lines f phase.hosts ++ phase_lines f phases) ++ rest) h).rest in
+    let joined = append_assoc (part_lines f phase.hosts) (phase_lines f phases) rest in
+    let parts = after_parts f (advanced p line.Phase head.values) phase.hosts (phase_lines f phases ++ rest) (subst (λ (ls : List Line). is_ok (after_lines (advanced p line.Phase head.values) ls) ≡ true) joined first) in
+    let more = after_phases f parts.progress phases rest parts.ok in
     record { progress = more.progress; config = more.config ∙ parts.config; ok = more.ok }
 
 -- Lines of the configuration.
@@ -176,21 +180,34 @@ all_sizes kind rest (size ∷ sizes) = λ p front e h. one_size kind rest size s
 abbrev zeros : ℕ → List ℕ
 zeros n = replicate n 0
 
--- the lines of a configuration leave it
-after_configuration : (c : Configuration) (rest : List Line) → length c.nvm ≡ 8 → length c.mem ≡ 8
-    → is_ok (after_lines start (configuration_lines c ++ rest)) ≡ true → Then c rest
+-- the depth of all queues together that the header says
+abbrev depth_said : Version → ℕ → Configuration → ℕ
+depth_said v queues c = header_queues v (counts (header_numbers v queues c)) * header_depth v (counts (header_numbers v queues c))
+
+-- a configuration with this depth
+abbrev deep : Configuration → ℕ → Configuration
+deep c depth = record c { depth = depth }
+
+-- what the header leaves
+begun_config : (v : Version) (queues : ℕ) (c : Configuration) → (advanced start (line.Header v) (counts (header_numbers v queues c))).config ≡ bare c.block (depth_said v queues c) c.budget
+begun_config version.One queues c = refl
+begun_config version.Two queues c = refl
+
+-- the lines of a configuration leave its sizes
+after_configuration : (f : Form) (c : Configuration) (rest : List Line) → length c.nvm ≡ 8 → length c.mem ≡ 8
+    → is_ok (after_lines start (configuration_lines f c ++ rest)) ≡ true → Then (deep c (depth_said f.version f.queues c)) rest
 unfolding nvm mem all_sizes
-after_configuration c rest n m h =
-    let header : Line = numbers_line line.Header (c.block ∷ c.depth ∷ c.budget ∷ []) in
-    let c0 : Configuration = bare c.block c.depth c.budget in
+after_configuration f c rest n m h =
+    let header : Line = header_line f c in
     let first = (goes start header ((size_lines (line.Namespace space_kind.Nvm) 1 c.nvm ++ size_lines (line.Namespace space_kind.Mem) 1 c.mem) ++ rest) h).rest in
-    let p : Progress = advanced start line.Header header.values in
+    let p : Progress = advanced start (line.Header f.version) header.values in
     let joined = append_assoc (size_lines (line.Namespace space_kind.Nvm) 1 c.nvm) (size_lines (line.Namespace space_kind.Mem) 1 c.mem) rest in
     let some = all_sizes nvm (size_lines (line.Namespace space_kind.Mem) 1 c.mem ++ rest) c.nvm p [] (ap zeros (sym n))
     (subst (λ (ls : List Line). is_ok (after_lines p ls) ≡ true) joined first) in
     let mems : some.progress.config.mem ≡ replicate (length c.mem) 0 = ap (λ (x : Configuration). x.mem) some.config ∙ ap zeros (sym m) in
     let both = all_sizes mem rest c.mem some.progress [] mems some.ok in
-    to_config _ c rest (ap (λ (x : Configuration). record x { mem = c.mem }) some.config) both
+    to_config _ (deep c (depth_said f.version f.queues c)) rest
+    (ap (λ (x : Configuration). record x { mem = c.mem }) some.config ∙ ap (λ (x : Configuration). record x { nvm = c.nvm; mem = c.mem }) (begun_config f.version f.queues c)) both
 
 -- Shows.
 
@@ -218,8 +235,8 @@ shown_inside number at len count most size first second e =
     (le_so len MAX_TRANSFER l.1, le_so (at + len) size room.1)
 
 region_inside : (p : Progress) (s : SpaceId) (at len : ℕ) → is_within_limits p (region_line s at len) ≡ true → IsInside p.config s at len
-region_inside p (space.Nvm n) at len e = shown_inside n at len p.shows p.limits.shows (unwrap_or (size_of p.config (space.Nvm n)) 0) _ _ e
-region_inside p (space.Mem n) at len e = shown_inside n at len p.shows p.limits.shows (unwrap_or (size_of p.config (space.Mem n)) 0) _ _ e
+region_inside p (space.Nvm n) at len e = shown_inside n at len p.shows (limits_of p.form.version).shows (unwrap_or (size_of p.config (space.Nvm n)) 0) _ _ e
+region_inside p (space.Mem n) at len e = shown_inside n at len p.shows (limits_of p.form.version).shows (unwrap_or (size_of p.config (space.Mem n)) 0) _ _ e
 
 region_keeps : (p : Progress) (s : SpaceId) (at len : ℕ) → (advanced p (region_line s at len).kind (region_line s at len).values).config ≡ p.config
 region_keeps p (space.Nvm n) at len = refl
@@ -236,13 +253,22 @@ after_shows p c (show ∷ shows) e h =
       after_shows (advanced p l.kind l.values) c shows (region_keeps p show.range.space show.range.start show.range.len ∙ e) g.rest,
     )
 
+-- the depth is no matter
+deep_inside : (c : Configuration) (depth : ℕ) (s : SpaceId) (at len : ℕ) → IsInside (deep c depth) s at len → IsInside c s at len
+deep_inside c depth (space.Nvm n) at len h = h
+deep_inside c depth (space.Mem n) at len h = h
+
 -- each show of a script that keeps its order and limits
 pub inside : (script : Script) → length script.config.nvm ≡ 8 → length script.config.mem ≡ 8 → KeepsOrderAndLimits script → AreInside script.config script.shows
 inside script n m kept =
+    let f : Form = script.form in
     let c : Configuration = script.config in
-    let joined = append_assoc (configuration_lines c) (phase_lines script.phases) (show_lines script.shows) in
-    let config = after_configuration c (phase_lines script.phases ++ show_lines script.shows) n m
+    let depth : ℕ = depth_said f.version f.queues c in
+    let joined = append_assoc (configuration_lines f c) (phase_lines f script.phases) (show_lines script.shows) in
+    let config = after_configuration f c (phase_lines f script.phases ++ show_lines script.shows) n m
     (subst (λ (ls : List Line). is_ok (after_lines start ls) ≡ true) joined kept) in
-    let phases = after_phases config.progress script.phases (show_lines script.shows) config.ok in
+    let phases = after_phases f config.progress script.phases (show_lines script.shows) config.ok in
     every-All (λ (show : Show). (show.range.len ≤ MAX_TRANSFER) × (show.range.start + show.range.len ≤ unwrap_or (size_of c show.range.space) 0)) script.shows
-    (after_shows phases.progress c script.shows (phases.config ∙ config.config) phases.ok)
+    (every-weaker (λ (show : Show). IsInside (deep c depth) show.range.space show.range.start show.range.len) (λ (show : Show). IsInside c show.range.space show.range.start show.range.len)
+    (λ show h. deep_inside c depth show.range.space show.range.start show.range.len h) script.shows
+    (after_shows phases.progress (deep c depth) script.shows (phases.config ∙ config.config) phases.ok))

@@ -3,7 +3,7 @@ use Rattle.std.specs.Prelude.{◌≡◌, ℕ, List, codes}
 use Rattle.bpf_asm.specs.Text.{IsCodeOf, IsFaultyAt}
 use Rattle.nvmecp.specs.Code.{hex_line}
 use Rattle.nvmecp.specs.Refusal.{refusal_line}
-use Rattle.nvmecp.specs.Task.{Task, max_input}
+use Rattle.nvmecp.specs.Task.{Task, max_input, never, none_denies}
 
 -- No line of the input is faulty.
 abbrev pub HasCode : List ℕ → Type 0
@@ -27,4 +27,4 @@ pub record TellsAssembly (input : List ℕ) (text : List ℕ) : Type 0 where
 
 -- what `asm` does with its input
 abbrev pub asm_task : Task
-asm_task = record { limit = max_input; Accepts = HasCode; Rejects = HasNoCode; Answers = IsAssembly; Refuses = TellsAssembly }
+asm_task = record { limit = max_input; Accepts = HasCode; Rejects = HasNoCode; Belies = never; Answers = IsAssembly; Refuses = TellsAssembly; Denies = none_denies }

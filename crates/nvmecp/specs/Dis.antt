@@ -5,7 +5,7 @@ use Rattle.bpf_model.specs.Walk.{bad_place, is_well_formed}
 use Rattle.bpf_asm.specs.Text.{IsCodeOf, IsProgram}
 use Rattle.nvmecp.specs.Code.{code_in}
 use Rattle.nvmecp.specs.Refusal.{place_line, refusal_line}
-use Rattle.nvmecp.specs.Task.{Task, max_input}
+use Rattle.nvmecp.specs.Task.{Task, max_input, never, none_denies}
 
 -- The input is the code of a program in hex.
 pub record IsHexCode (input : List ℕ) : Type 0 where
@@ -33,4 +33,4 @@ pub data TellsCode (input : List ℕ) (text : List ℕ) : Type 0 where
 
 -- what `dis` does with its input
 abbrev pub dis_task : Task
-dis_task = record { limit = max_input; Accepts = IsHexCode; Rejects = IsNoHexCode; Answers = IsDisassembly; Refuses = TellsCode }
+dis_task = record { limit = max_input; Accepts = IsHexCode; Rejects = IsNoHexCode; Belies = never; Answers = IsDisassembly; Refuses = TellsCode; Denies = none_denies }

@@ -1,4 +1,5 @@
 pub mod Asm
+pub mod Check
 pub mod Code
 pub mod Dis
 pub mod Ends
@@ -11,4 +12,5 @@ pub mod Shown
 pub mod Step
 pub mod Summed
 pub mod Task
+pub mod Upgrade
 pub mod Words

@@ -28,6 +28,15 @@ pub record IsRefused {S K : Type 0} (task : Task) (left : S → Option (List ℕ
   pub at_end : length input ≤ task.limit → IsAtEnd (left source')
   pub writes : Writes (IsRefusal task input) (held sink) (held sink')
 
+-- Status 6: all that the source had left was read, it is not too long, and what it says does not hold; the line that tells
+-- it is written.
+pub record IsDenied {S K : Type 0} (task : Task) (left : S → Option (List ℕ)) (given : S → ℕ) (held : K → Option (List ℕ)) (source source' : S) (sink sink' : K) : Type 0 where
+  pub input : List ℕ
+  pub gave : Gave (left source) (left source') (given source) (given source') input
+  pub within : length input ≤ task.limit
+  pub at_end : IsAtEnd (left source')
+  pub writes : Writes (task.Denies input) (held sink) (held sink')
+
 -- Status 4: too many bytes came, or all that the source had left was read; a front of the text that is due
 -- for it is written.
 pub record IsCutShort {S K : Type 0} (task : Task) (left : S → Option (List ℕ)) (given : S → ℕ) (held : K → Option (List ℕ)) (source source' : S) (sink sink' : K) : Type 0 where
@@ -58,13 +67,16 @@ pub record Ran {S K : Type 0} (words : List (List ℕ)) (left : S → Option (Li
   pub untouched : status ≡ 1 → (source' ≡ source) × (sink' ≡ sink)
   pub done : status ≡ 0 → IfSome (asked_of words) (λ asked. Done (task_of asked) left given held source source' sink sink')
   pub refused : status ≡ 2 → IfSome (asked_of words) (λ asked. IsRefused (task_of asked) left given held source source' sink sink')
+  pub denied : status ≡ 6 → IfSome (asked_of words) (λ asked. IsDenied (task_of asked) left given held source source' sink sink')
   pub made : IfSome (load_of words) (λ load. IsMade load held source source' sink sink' status)
   pub read_fault : status ≡ 3 → Rose (source_faults source) (source_faults source')
   pub write_fault : status ≡ 4 → Rose (sink_faults sink) (sink_faults sink')
   pub cut_short : status ≡ 4 → IfSome (asked_of words) (λ asked. IsCutShort (task_of asked) left given held source source' sink sink')
   pub unwritten : (status ≡ 3) ⊎ (status ≡ 5) → sink' ≡ sink
-  pub statuses : status ≤ 5
+  pub statuses : status ≤ 6
   pub accepted : (asked : Asked) (input : List ℕ) → asked_of words ≡ Some asked → left source ≡ Some input → length input ≤ (task_of asked).limit
       → (task_of asked).Accepts input → NoFault source_faults sink_faults source source' sink sink' → (status ≡ 0) ⊎ (status ≡ 5)
   pub rejected : (asked : Asked) (input : List ℕ) → asked_of words ≡ Some asked → left source ≡ Some input → length input ≤ (task_of asked).limit
       → (task_of asked).Rejects input → NoFault source_faults sink_faults source source' sink sink' → (status ≡ 2) ⊎ (status ≡ 5)
+  pub belied : (asked : Asked) (input : List ℕ) → asked_of words ≡ Some asked → left source ≡ Some input → length input ≤ (task_of asked).limit
+      → (task_of asked).Belies input → NoFault source_faults sink_faults source source' sink sink' → (status ≡ 6) ⊎ (status ≡ 5)

@@ -5,6 +5,7 @@ use Rattle.script_cmds.specs.declared.item.Phase.{Phase}
 use Rattle.script_cmds.specs.declared.script.Script.{Script}
 use Rattle.script_cmds.specs.Fault.{first_fault}
 use Rattle.script_line.specs.Sized.{AreSized}
+use Rattle.script_cmds.specs.Queues.{AreExact}
 use Rattle.script_cmds.specs.Text.{lines_of, script_text}
 use Rattle.history_model.specs.Plain.{plain_phases}
 use Rattle.history_model.specs.Plan.{PlanFault, plan_of}
@@ -14,11 +15,13 @@ use Rattle.trail_model.specs.Lawful.{Trail, world_of}
 use Rattle.schedule_model.specs.Schedule.{IsScheduled}
 use Rattle.schedule_model.specs.Told.{TellsPlan}
 use Rattle.nvmecp.specs.Refusal.{breach_line, fault_line}
-use Rattle.nvmecp.specs.Task.{Task, max_input}
+use Rattle.nvmecp.specs.Task.{Task, max_input, never, none_denies}
 
--- The input is the text of a script, whose numbers have 64 bits and whose data are bytes.
+-- The input is the text of a script, whose numbers have 64 bits and whose data are bytes, and which says of its queues
+-- what the text says.
 pub record IsTextOf (script : Script) (input : List ℕ) : Type 0 where
   pub sized : AreSized (lines_of script)
+  pub queues : AreExact script.form script.config.depth
   pub read : script_text script ≡ input
 
 -- The input is accepted: no line of it is faulty, and the script whose text it is has a plan.
@@ -62,6 +65,8 @@ step_task workers choices = record {
   limit = max_input;
   Accepts = HasPlan;
   Rejects = HasNoPlan;
+  Belies = never;
   Answers = IsHistory workers choices;
   Refuses = TellsScript;
+  Denies = none_denies;
 }

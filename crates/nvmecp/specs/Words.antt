@@ -6,9 +6,11 @@ use Rattle.cp_line.specs.declared.limits.TheConstants.{MAX_MADE}
 use Rattle.cp_line.specs.declared.order.Order.{Order}
 use Rattle.cp_line.specs.declared.order.Order.TheVariants as order
 use Rattle.nvmecp.specs.Asm.{asm_task}
+use Rattle.nvmecp.specs.Check.{check_task}
 use Rattle.nvmecp.specs.Dis.{dis_task}
 use Rattle.nvmecp.specs.Step.{step_task}
 use Rattle.nvmecp.specs.Task.{Task}
+use Rattle.nvmecp.specs.Upgrade.{upgrade_task}
 use Rattle.nvmecp.specs.declared.words.Asked.{Asked}
 use Rattle.nvmecp.specs.declared.words.Asked.TheVariants as asked
 use Rattle.nvmecp.specs.declared.words.Errand.{Errand}
@@ -22,8 +24,8 @@ errand_by (order.Serve workers) = None
 errand_by (order.Make seed commands) = Some (errand.Make (record { seed = seed; commands = commands }))
 errand_by order.Asm = Some (errand.Answer asked.Asm)
 errand_by order.Dis = Some (errand.Answer asked.Dis)
-errand_by order.Upgrade = None
-errand_by order.Check = None
+errand_by order.Upgrade = Some (errand.Answer asked.Upgrade)
+errand_by order.Check = Some (errand.Answer asked.Check)
 
 -- what is done on words; None where they are no order, or one that this version does not carry out
 abbrev pub errand_of : List (List ℕ) → Option Errand
@@ -52,6 +54,8 @@ abbrev pub HasWorkers : Asked → Type 0
 HasWorkers (asked.Step workers choices) = (1 ≤ workers) × (workers ≤ MAX_HOSTS)
 HasWorkers asked.Asm = Unit {0}
 HasWorkers asked.Dis = Unit {0}
+HasWorkers asked.Upgrade = Unit {0}
+HasWorkers asked.Check = Unit {0}
 
 -- the numbers of an errand are in their ranges: workers are 1 to 16, and a load has at most 8,192 commands
 abbrev pub IsInRange : Errand → Type 0
@@ -63,3 +67,5 @@ abbrev pub task_of : Asked → Task
 task_of (asked.Step workers choices) = step_task workers choices
 task_of asked.Asm = asm_task
 task_of asked.Dis = dis_task
+task_of asked.Upgrade = upgrade_task
+task_of asked.Check = check_task

@@ -9,6 +9,8 @@ pub enum Ending {
     Done,
     /// The input is refused, and a line that tells it is written.
     Refused,
+    /// What the input says does not hold, and a line that tells it is written.
+    Denied,
     /// The sink failed.
     WriteFault,
     /// Memory is wanting, and nothing is written.
@@ -23,6 +25,7 @@ impl Ending {
         match self {
             Ending::Done => 0,
             Ending::Refused => 2,
+            Ending::Denied => 6,
             Ending::WriteFault => 4,
             Ending::NoMemory => NO_MEMORY,
         }

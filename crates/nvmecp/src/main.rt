@@ -9,10 +9,12 @@ ghost use Rattle.std.specs.Vec.Iter.{into_iter_items};
 ghost use Rattle.nvmecp.specs.Run.{Ran};
 
 mod asm;
+mod check;
 mod dis;
 mod ending;
 mod laws;
 mod make;
+mod parting;
 mod printing;
 mod refusing;
 mod run;
@@ -21,6 +23,7 @@ mod step;
 mod summing;
 #[cfg(test)]
 mod tests;
+mod upgrade;
 mod words;
 
 use cp_base::NoMemory;

@@ -1,7 +1,8 @@
-// What is told of an input that is refused.
+// What is told of an input that is refused, or that says what does not hold.
 ghost use Rattle.std.specs.Prelude.{◌≡◌, ◌≢◌, IfOk};
 ghost use Rattle.script_plan.specs.Cause.{breach_of};
-ghost use Rattle.nvmecp.specs.Ends.{EndsRefused};
+ghost use Rattle.nvmecp.specs.Check.{bad_line};
+ghost use Rattle.nvmecp.specs.Ends.{EndsDenied, EndsRefused};
 ghost use Rattle.nvmecp.specs.Refusal.{breach_text, cause_text, place_line, refusal_line};
 
 use crate::ending::Ending;
@@ -62,6 +63,17 @@ fn place_text(alloc: Global, place: u32) -> Result<Bytes, NoMemory>
     Ok(text)
 }
 
+// The line that tells the first bad line of a history, counted from 1.
+fn bad_line_text(alloc: Global, line: u32) -> Result<Bytes, NoMemory>
+    ensures { IfOk result (λ text. text.items ≡ bad_line line) }
+{
+    let mut text = Bytes::new(alloc);
+    push_piece(&mut text, b"history line ")?;
+    push_number(&mut text, line as u64)?;
+    push_piece(&mut text, b": NotLegal\n")?;
+    Ok(text)
+}
+
 /// Writes a line that tells a refusal.
 pub fn refuse<K: Sink>(sink: &mut K, line: &[u8]) -> Ending
     ensures ends { EndsRefused line.now K.held K.faults sink.old sink.new result }
@@ -89,6 +101,19 @@ pub fn refuse_place<K: Sink>(alloc: Global, sink: &mut K, place: u32) -> Ending
 {
     match place_text(alloc, place) {
         Ok(text) => refuse(sink, text.as_slice()),
+        Err(NoMemory) => Ending::NoMemory,
+    }
+}
+
+/// Tells the first bad line of a history.
+pub fn deny_line<K: Sink>(alloc: Global, sink: &mut K, line: u32) -> Ending
+    ensures { EndsDenied (bad_line line) K.held K.faults sink.old sink.new result }
+{
+    match bad_line_text(alloc, line) {
+        Ok(text) => match write_all(sink, text.as_slice()) {
+            Ok(()) => Ending::Denied,
+            Err(_) => Ending::WriteFault,
+        },
         Err(NoMemory) => Ending::NoMemory,
     }
 }

@@ -5,7 +5,7 @@ ghost use Rattle.cp_io.specs.Counting.{Rose};
 ghost use Rattle.cp_line.specs.declared.limits.TheConstants.{MAX_MADE};
 ghost use Rattle.nvmecp.specs.Ends.{Writes, WritesFront};
 ghost use Rattle.nvmecp.specs.Make.{IsSummary};
-ghost use Rattle.nvmecp.specs.Run.{Done, IsCutShort, IsMade, IsRefused, NoFault};
+ghost use Rattle.nvmecp.specs.Run.{Done, IsCutShort, IsDenied, IsMade, IsRefused, NoFault};
 ghost use Rattle.nvmecp.specs.Words.{HasWorkers, asked_of, errand_of, load_of, task_of};
 ghost use Rattle.nvmecp.specs.declared.words.Asked.{Asked};
 
@@ -24,16 +24,20 @@ fn read_and_answer<S: Source, K: Sink>(
     sink: &mut K,
 ) -> u8
     requires { HasWorkers asked }
-    ensures status { (result ≡ 0) ⊎ (result ≡ 2) ⊎ (result ≡ 3) ⊎ (result ≡ 4) ⊎ (result ≡ 5) }
+    ensures status { (result ≡ 0) ⊎ (result ≡ 2) ⊎ (result ≡ 3) ⊎ (result ≡ 4) ⊎ (result ≡ 5) ⊎ (result ≡ 6) }
     ensures done { result ≡ 0 → Done (task_of asked) S.left S.given K.held source.old source.new sink.old sink.new }
     ensures refused { result ≡ 2 → IsRefused (task_of asked) S.left S.given K.held source.old source.new sink.old sink.new }
+    ensures denied { result ≡ 6 → IsDenied (task_of asked) S.left S.given K.held source.old source.new sink.old sink.new }
     ensures cut_short { result ≡ 4 → IsCutShort (task_of asked) S.left S.given K.held source.old source.new sink.old sink.new }
     ensures read_fault { result ≡ 3 → Rose (S.faults source.old) (S.faults source.new) }
     ensures write_fault { result ≡ 4 → Rose (K.faults sink.old) (K.faults sink.new) }
     ensures unwritten { (result ≡ 3) ⊎ (result ≡ 5) → sink.new ≡ sink.old }
     ensures accepted { (input : List ℕ) → S.left source.old ≡ Some input → length input ≤ (task_of asked).limit
-        → (task_of asked).Accepts input → result ≡ 2 → ⊥ }
-    ensures rejected { (input : List ℕ) → S.left source.old ≡ Some input → (task_of asked).Rejects input → result ≡ 0 → ⊥ }
+        → (task_of asked).Accepts input → (result ≡ 2) ⊎ (result ≡ 6) → ⊥ }
+    ensures rejected { (input : List ℕ) → S.left source.old ≡ Some input → (task_of asked).Rejects input
+        → (result ≡ 0) ⊎ (result ≡ 6) → ⊥ }
+    ensures belied { (input : List ℕ) → S.left source.old ≡ Some input → length input ≤ (task_of asked).limit
+        → (task_of asked).Belies input → (result ≡ 0) ⊎ (result ≡ 2) → ⊥ }
 {
     match read_all(alloc, source, asked.limit()) {
         Ok(input) => asked.answer(alloc, &input, sink).status(),
@@ -57,7 +61,7 @@ fn make_and_sum_up<K: Sink>(alloc: Global, load: Load, sink: &mut K) -> u8
 
 /// Runs the program: the words of the command line after its name, the source of its input and the sink
 /// of its text. Gives the status: 0 done, 1 wrong words, 2 the input is refused, 3 the source failed,
-/// 4 the sink failed, 5 memory is wanting.
+/// 4 the sink failed, 5 memory is wanting, 6 what the input says does not hold.
 pub fn run<S: Source, K: Sink>(alloc: Global, words: &[String], source: &mut S, sink: &mut K) -> u8
     // The words.
     ensures usage { (result ≡ 1) ↔ (errand_of (map string_bytes words.now) ≡ None) }
@@ -76,12 +80,14 @@ pub fn run<S: Source, K: Sink>(alloc: Global, words: &[String], source: &mut S, 
     // What is told otherwise, and its causes.
     ensures refused { result ≡ 2 → IfSome (asked_of (map string_bytes words.now)) (λ asked.
         IsRefused (task_of asked) S.left S.given K.held source.old source.new sink.old sink.new) }
+    ensures denied { result ≡ 6 → IfSome (asked_of (map string_bytes words.now)) (λ asked.
+        IsDenied (task_of asked) S.left S.given K.held source.old source.new sink.old sink.new) }
     ensures read_fault { result ≡ 3 → Rose (S.faults source.old) (S.faults source.new) }
     ensures write_fault { result ≡ 4 → Rose (K.faults sink.old) (K.faults sink.new) }
     ensures cut_short { result ≡ 4 → IfSome (asked_of (map string_bytes words.now)) (λ asked.
         IsCutShort (task_of asked) S.left S.given K.held source.old source.new sink.old sink.new) }
     ensures unwritten { (result ≡ 3) ⊎ (result ≡ 5) → sink.new ≡ sink.old }
-    ensures statuses { result ≤ 5 }
+    ensures statuses { result ≤ 6 }
 
     // Good words and no fault: an accepted input is done and a rejected one is refused, unless memory is
     // wanting.
@@ -91,6 +97,9 @@ pub fn run<S: Source, K: Sink>(alloc: Global, words: &[String], source: &mut S, 
     ensures rejected { (asked : Asked) (input : List ℕ) → asked_of (map string_bytes words.now) ≡ Some asked → S.left source.old ≡ Some input
         → length input ≤ (task_of asked).limit → (task_of asked).Rejects input
         → NoFault S.faults K.faults source.old source.new sink.old sink.new → (result ≡ 2) ⊎ (result ≡ 5) }
+    ensures belied { (asked : Asked) (input : List ℕ) → asked_of (map string_bytes words.now) ≡ Some asked → S.left source.old ≡ Some input
+        → length input ≤ (task_of asked).limit → (task_of asked).Belies input
+        → NoFault S.faults K.faults source.old source.new sink.old sink.new → (result ≡ 6) ⊎ (result ≡ 5) }
 {
     match read_words(words) {
         Some(Errand::Answer(asked)) => read_and_answer(alloc, asked, source, sink),

@@ -2,6 +2,7 @@
 ghost use Rattle.std.specs.Prelude.{Some};
 
 mod programs;
+mod traces;
 
 use crate::run::run;
 use cp_base::Bytes;
@@ -244,6 +245,78 @@ fn scripts_give_their_texts(rt: HostRuntime) {
     }
 }
 
+// The first four lines of a script with two queues for a host, each for one command, and a send to each.
+const TWO_QUEUES: &str =
+    "nvmecp 2 block=512 queues=2 depth=1 budget=1\nmem 1 bytes=16\nphase\nhost 1\nsend 1:7 memfill ns=1 at=0 len=1 value=1\nsend 2:7 memfill ns=1 at=1 len=1 value=2\n";
+
+#[test]
+fn hosts_have_several_queues(rt: HostRuntime) {
+    let alloc = rt.alloc();
+    let deep =
+        "nvmecp 2 block=512 queues=2 depth=2 budget=1\nmem 1 bytes=16\nphase\nhost 1\nsend 1:7 memfill ns=1 at=0 len=1 value=1\nsend 2:7 memfill ns=1 at=1 len=1 value=2\n";
+    for (front, more, status, output) in [
+        (
+            TWO_QUEUES,
+            "show mem 1 at=0 len=4\n",
+            0,
+            "#1 h1 n1 c7 memfill Ok r=0 d=\n#2 h1 n2 c65543 memfill Ok r=0 d=\nshow mem 1 at=0 len=4 d=01020000\n",
+        ),
+        (
+            TWO_QUEUES,
+            "send 2:8 memfill ns=1 at=0 len=1 value=1\n",
+            2,
+            "line 7: QueueFull\n",
+        ),
+        (
+            deep,
+            "send 1:7 memfill ns=1 at=0 len=1 value=1\n",
+            2,
+            "line 7: CidBusy\n",
+        ),
+        (TWO_QUEUES, "send 3:7 unload slot=0\n", 2, "line 7: Limit\n"),
+        (TWO_QUEUES, "send 7 unload slot=0\n", 2, "line 7: Field\n"),
+        (TWO_QUEUES, "take 01:7\n", 2, "line 7: Number\n"),
+        (TWO_QUEUES, "take 1:8\n", 2, "line 7: NotOutstanding\n"),
+    ] {
+        let input = format!(in alloc; "{front}{more}").ok();
+        assert_eq!(rt;
+            input.and_then(|input| given(alloc, "step 1 0", input.as_str(), output)),
+            Some((status, true)),
+            "{more}"
+        );
+    }
+}
+
+#[test]
+fn scripts_are_upgraded(rt: HostRuntime) {
+    let write =
+        "nvmecp 2 block=512 queues=1 depth=16 budget=1000\nmem 1 bytes=16\nphase\nhost 1\nsend 1:1 memwrite ns=1 at=0 data=0102\nshow mem 1 at=0 len=4\n";
+    let aborts =
+        "nvmecp 2 block=512 queues=1 depth=16 budget=1000\nmem 1 bytes=16\nphase\nhost 1\nsend 1:1 memfill ns=1 at=0 len=4 value=1\nsend 1:2 abort cid=1:1\nshow mem 1 at=0 len=4\n";
+    for (input, status, output) in [
+        (WRITE, 0, write),
+        (write, 0, write),
+        (FILL_AND_ABORT, 0, aborts),
+        (TWO_QUEUES, 0, TWO_QUEUES),
+        (
+            "nvmecp 1 block=512 depth=1 budget=1\nphase\nhost 1\ntake 5\n",
+            2,
+            "line 4: NotOutstanding\n",
+        ),
+        (
+            "nvmecp 1 block=513 depth=1 budget=1\n",
+            2,
+            "line 1: Limit\n",
+        ),
+    ] {
+        assert_eq!(rt;
+            given(rt.alloc(), "upgrade", input, output),
+            Some((status, true)),
+            "{input}"
+        );
+    }
+}
+
 // Two hosts fill bytes of which they share two.
 const TWO_FILLS: &str =
     "nvmecp 1 block=512 depth=16 budget=1000\nmem 1 bytes=16\nphase\nhost 1\nsend 1 memfill ns=1 at=0 len=4 value=1\nhost 2\nsend 1 memfill ns=1 at=2 len=4 value=2\nshow mem 1 at=0 len=8\n";
@@ -422,6 +495,8 @@ fn wrong_words_touch_nothing(rt: HostRuntime) {
         "make 0 8193",
         "asm 1",
         "dis dis",
+        "upgrade 1",
+        "check 1",
         "-asm",
         "step 1 0 0",
         "--help",
@@ -488,8 +563,8 @@ fn sized(alloc: Global, len: u64) -> Option<(u8, usize)> {
 
 #[test]
 fn too_many_bytes_are_told(rt: HostRuntime) {
-    assert_eq!(rt; sized(rt.alloc(), 16_777_217), Some((2, 9)), "too long");
-    assert_eq!(rt; sized(rt.alloc(), 16_777_216), Some((2, 13)), "no newline");
+    assert_eq!(rt; sized(rt.alloc(), 33_554_433), Some((2, 9)), "too long");
+    assert_eq!(rt; sized(rt.alloc(), 33_554_432), Some((2, 13)), "no newline");
 }
 
 // A sink that takes at most so many bytes at a time, and holds what it took.

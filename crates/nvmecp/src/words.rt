@@ -1,12 +1,12 @@
 // The words of the command line.
-ghost use Rattle.std.specs.Prelude.{◌≡◌, ◌≤◌, IfSome, length, map};
+ghost use Rattle.std.specs.Prelude.{◌≡◌, ◌≤◌, ◌⊎◌, IfSome, length, map};
 ghost use Rattle.std.specs.String.{string_bytes};
 ghost use Rattle.cp_line.specs.Orders.{IsInTable};
-ghost use Rattle.nvmecp.specs.Ends.{EndsBy};
+ghost use Rattle.nvmecp.specs.Ends.{EndsOn};
 ghost use Rattle.nvmecp.specs.Words.{HasWorkers, IsInRange, errand_by, errand_of, task_of};
 
 use crate::ending::Ending;
-use crate::{asm, dis, step};
+use crate::{asm, check, dis, step, upgrade};
 use cp_base::Bytes;
 use cp_io::Sink;
 use cp_line::Order;
@@ -22,7 +22,14 @@ pub enum Asked {
     Asm,
     /// Code is made assembly text.
     Dis,
+    /// A script is written as version 2.
+    Upgrade,
+    /// A history is held against its script.
+    Check,
 }
+
+// The most bytes of a script and a history together.
+const MAX_TRACE: u64 = 268_435_456;
 
 /// The load that is to be made: the seed of its words, and how many commands it has behind those that prepare the device.
 #[derive(Clone, Copy, Debug)]
@@ -46,7 +53,8 @@ impl Asked {
         ensures { result ≡ (task_of self).limit }
     {
         match self {
-            Asked::Step { .. } | Asked::Asm | Asked::Dis => VERSION_1.bytes,
+            Asked::Step { .. } | Asked::Asm | Asked::Dis | Asked::Upgrade => VERSION_1.bytes,
+            Asked::Check => MAX_TRACE,
         }
     }
 
@@ -54,9 +62,11 @@ impl Asked {
     pub fn answer<K: Sink>(self, alloc: Global, input: &Bytes, sink: &mut K) -> Ending
         requires within { length input.now.items ≤ (task_of self).limit }
         requires workers { HasWorkers self }
-        ensures ends { EndsBy ((task_of self).Answers input.now.items) ((task_of self).Refuses input.now.items) K.held K.faults sink.old sink.new result }
-        ensures accepted { (task_of self).Accepts input.now.items → result ≡ Ending.Refused → ⊥ }
-        ensures rejected { (task_of self).Rejects input.now.items → result ≡ Ending.Done → ⊥ }
+        ensures ends { EndsOn ((task_of self).Answers input.now.items) ((task_of self).Refuses input.now.items)
+            ((task_of self).Denies input.now.items) K.held K.faults sink.old sink.new result }
+        ensures accepted { (task_of self).Accepts input.now.items → (result ≡ Ending.Refused) ⊎ (result ≡ Ending.Denied) → ⊥ }
+        ensures rejected { (task_of self).Rejects input.now.items → (result ≡ Ending.Done) ⊎ (result ≡ Ending.Denied) → ⊥ }
+        ensures belied { (task_of self).Belies input.now.items → (result ≡ Ending.Done) ⊎ (result ≡ Ending.Refused) → ⊥ }
     {
         match self {
             Asked::Step { workers, choices } => {
@@ -64,12 +74,13 @@ impl Asked {
             }
             Asked::Asm => asm::answer(alloc, input, sink),
             Asked::Dis => dis::answer(alloc, input, sink),
+            Asked::Upgrade => upgrade::answer(alloc, input, sink),
+            Asked::Check => check::answer(alloc, input, sink),
         }
     }
 }
 
-// What this version of the program does on an order. `None` for orders that are not built yet: threads, the second version
-// of scripts and the checker.
+// What this version of the program does on an order. `None` for threads, which are not built yet.
 fn errand_by(order: Order) -> Option<Errand>
     requires { IsInTable order }
     ensures errand { result ≡ errand_by order }
@@ -82,7 +93,9 @@ fn errand_by(order: Order) -> Option<Errand>
         Order::Make { seed, commands } => Some(Errand::Make(Load { seed, commands })),
         Order::Asm => Some(Errand::Answer(Asked::Asm)),
         Order::Dis => Some(Errand::Answer(Asked::Dis)),
-        Order::Serve { .. } | Order::Upgrade | Order::Check => None,
+        Order::Upgrade => Some(Errand::Answer(Asked::Upgrade)),
+        Order::Check => Some(Errand::Answer(Asked::Check)),
+        Order::Serve { .. } => None,
     }
 }
 

@@ -6,7 +6,5 @@ mod checks;
 mod pieces;
 mod program;
 mod slots;
-#[cfg(test)]
-mod tests;
 
 pub use slots::Slots;

@@ -4,8 +4,6 @@
 mod causes;
 mod command;
 mod queue;
-#[cfg(test)]
-mod tests;
 
 pub use causes::{SendCause, TakeCause};
 pub use command::{Outstanding, Queued, Stage};

@@ -7,8 +7,6 @@ mod runs;
 mod search;
 mod segments;
 mod steps;
-#[cfg(test)]
-mod tests;
 
 pub use claims::{Claim, Claims};
 pub use steps::Steps;

@@ -3,7 +3,5 @@
 
 mod checks;
 mod sets;
-#[cfg(test)]
-mod tests;
 
 pub use sets::Sets;

@@ -1,10 +1,11 @@
 -- A text without a faulty line is the text of a script.
-use Rattle.std.proofs.Common.{◌≡◌, ℕ, ◌+◌, Bool, true, false, cond, List, [], ◌∷◌, ◌++◌, Option, None, Result, Ok, Err, Global, refl, sym, ap, subst, ◌∙◌, append_assoc, arith}
+use Rattle.std.proofs.Common.{◌≡◌, ℕ, ◌+◌, Bool, true, false, cond, List, [], ◌∷◌, ◌++◌, Option, Some, None, Result, Ok, Err, Global, refl, sym, ap, subst, ◌∙◌, append_assoc, arith}
 use Rattle.std.specs.Prelude.{is_ok}
 use Rattle.std.specs.declared.sync.Arc.{Arc}
 use Rattle.std.proofs.lemmas.List.{append-nil}
 use Rattle.std.proofs.lemmas.List.Elements.{All-nil}
 use denote.RawPtr.{null_ptr}
+use Rattle.cp_base.specs.Words.{word_of, word_text}
 use Rattle.cp_base.specs.declared.commands.Command.{Command}
 use Rattle.cp_base.specs.declared.commands.Command.TheVariants as command
 use Rattle.cp_base.specs.declared.words.CommandWord.{CommandWord}
@@ -17,12 +18,17 @@ use Rattle.script_line.specs.declared.kind.LineKind.{LineKind}
 use Rattle.script_line.specs.declared.kind.LineKind.TheVariants as line
 use Rattle.script_line.specs.declared.kind.SpaceKind.{SpaceKind}
 use Rattle.script_line.specs.declared.kind.SpaceKind.TheVariants as space_kind
-use Rattle.script_line.specs.Field.{IsShaped, Value, Count, Data, Copied, Covered}
-use Rattle.script_line.specs.Line.{Line, fields_of, send_line}
+use Rattle.script_line.specs.Field.{IsShaped, Value, Count, Data, Copied, Covered, Word}
+use Rattle.script_line.specs.Fits.{values_fit}
+use Rattle.script_line.specs.Line.{Line, command_fields, command_values, fields_of, send_line, identifier_value}
 use Rattle.script_line.specs.Reading.{line_of}
 use Rattle.script_line.specs.Sized.{AreSized, IsSizedLine}
-use Rattle.script_line.specs.Values.{number_at}
+use Rattle.script_line.specs.Values.{identifier_at, identifier_in, number_at}
+use Rattle.script_line.specs.Versions.{IsOfVersion}
+use Rattle.script_line.specs.declared.version.Version.{Version}
+use Rattle.script_line.proofs.Shapes.{abort_names, identifier_said}
 use Rattle.script_line.proofs.Said.{bind_ok, line_says}
+use Rattle.script_cmds.specs.declared.form.Form.{Form}
 use Rattle.script_cmds.specs.declared.item.Item.{Item}
 use Rattle.script_cmds.specs.declared.item.Item.TheVariants as item
 use Rattle.script_cmds.specs.declared.item.HostPart.{HostPart}
@@ -41,33 +47,56 @@ use Rattle.script_cmds.specs.private.Drafts.{Drafted, IsDraft, draft_lines, open
 use Rattle.script_cmds.specs.private.Stored.{Stored}
 use Rattle.script_cmds.proofs.Keeping.{header_keeps}
 use Rattle.script_cmds.proofs.OneMore.{item_one_more, part_one_more, phase_one_more, show_one_more, text_one_more}
-use Rattle.script_cmds.proofs.Puts.{adds, finished}
+use Rattle.script_cmds.proofs.Meanings.{take_says}
+use Rattle.script_cmds.proofs.Puts.{adds, finished, fits_of, passed}
 use Rattle.script_cmds.proofs.WholeTexts.{fault_two}
 
 -- ---- the command of a send line
 
-record Sends (w : CommandWord) (vs : List Value) : Type 0 where
+record Sends (v : Version) (w : CommandWord) (vs : List Value) : Type 0 where
   sent : Command
-  line : send_line (number_at vs 0) sent ≡ record { kind = line.Send w; values = vs }
+  line : send_line v (identifier_at vs 0) sent ≡ record { kind = line.Send v w; values = vs }
 
-command_of : (w : CommandWord) (vs : List Value) → IsShaped (fields_of (line.Send w)) vs → Sends w vs
-command_of word.NvmRead (Count a ∷ Count b ∷ Count c ∷ Count d ∷ []) h = record { sent = command.NvmRead b c d; line = refl }
-command_of word.NvmWrite (Count a ∷ Count b ∷ Count c ∷ Data d ∷ []) h = record { sent = command.NvmWrite b c (record { items = d; spare = 0 }); line = refl }
-command_of word.NvmZeroes (Count a ∷ Count b ∷ Count c ∷ Count d ∷ []) h = record { sent = command.NvmZeroes b c d; line = refl }
-command_of word.NvmCopy (Count a ∷ Count b ∷ Count c ∷ Copied d ∷ []) h = record { sent = command.NvmCopy b c d; line = refl }
-command_of word.MemRead (Count a ∷ Count b ∷ Count c ∷ Count d ∷ []) h = record { sent = command.MemRead b c d; line = refl }
-command_of word.MemWrite (Count a ∷ Count b ∷ Count c ∷ Data d ∷ []) h = record { sent = command.MemWrite b c (record { items = d; spare = 0 }); line = refl }
-command_of word.MemFill (Count a ∷ Count b ∷ Count c ∷ Count d ∷ Count e ∷ []) h = record { sent = command.MemFill b c d e; line = refl }
-command_of word.MemCopy (Count a ∷ Count b ∷ Count c ∷ Copied d ∷ []) h = record { sent = command.MemCopy b c d; line = refl }
-command_of word.SetCreate (Count a ∷ Covered b ∷ []) h = record { sent = command.SetCreate b; line = refl }
-command_of word.SetDelete (Count a ∷ Count b ∷ []) h = record { sent = command.SetDelete b; line = refl }
-command_of word.Load (Count a ∷ Count b ∷ Count c ∷ Count d ∷ Data e ∷ []) h = record { sent = command.Load b c d (record { items = e; spare = 0 }); line = refl }
-command_of word.Unload (Count a ∷ Count b ∷ []) h = record { sent = command.Unload b; line = refl }
-command_of word.Activate (Count a ∷ Count b ∷ []) h = record { sent = command.Activate b; line = refl }
-command_of word.Deactivate (Count a ∷ Count b ∷ []) h = record { sent = command.Deactivate b; line = refl }
-command_of word.Execute (Count a ∷ Count b ∷ Count c ∷ Count d ∷ Count e ∷ Count f ∷ []) h = record { sent = command.Execute b c d e f; line = refl }
-command_of word.Abort (Count a ∷ Count b ∷ []) h = record { sent = command.Abort b; line = refl }
-command_of w _ h = absurd h
+-- the command of what a send line says behind the identifier
+record Behind (v : Version) (w : CommandWord) (vs : List Value) : Type 0 where
+  sent : Command
+  word : word_of sent ≡ w
+  values : command_values v sent ≡ vs
+
+command_behind : (v : Version) (w : CommandWord) (vs : List Value) → IsShaped (command_fields v w) vs → values_fit (command_fields v w) vs ≡ true → Behind v w vs
+command_behind v word.NvmRead (Count b ∷ Count c ∷ Count d ∷ []) h e = record { sent = command.NvmRead b c d; word = refl; values = refl }
+command_behind v word.NvmWrite (Count b ∷ Count c ∷ Data d ∷ []) h e = record { sent = command.NvmWrite b c (record { items = d; spare = 0 }); word = refl; values = refl }
+command_behind v word.NvmZeroes (Count b ∷ Count c ∷ Count d ∷ []) h e = record { sent = command.NvmZeroes b c d; word = refl; values = refl }
+command_behind v word.NvmCopy (Count b ∷ Count c ∷ Copied d ∷ []) h e = record { sent = command.NvmCopy b c d; word = refl; values = refl }
+command_behind v word.MemRead (Count b ∷ Count c ∷ Count d ∷ []) h e = record { sent = command.MemRead b c d; word = refl; values = refl }
+command_behind v word.MemWrite (Count b ∷ Count c ∷ Data d ∷ []) h e = record { sent = command.MemWrite b c (record { items = d; spare = 0 }); word = refl; values = refl }
+command_behind v word.MemFill (Count b ∷ Count c ∷ Count d ∷ Count x ∷ []) h e = record { sent = command.MemFill b c d x; word = refl; values = refl }
+command_behind v word.MemCopy (Count b ∷ Count c ∷ Copied d ∷ []) h e = record { sent = command.MemCopy b c d; word = refl; values = refl }
+command_behind v word.SetCreate (Covered b ∷ []) h e = record { sent = command.SetCreate b; word = refl; values = refl }
+command_behind v word.SetDelete (Count b ∷ []) h e = record { sent = command.SetDelete b; word = refl; values = refl }
+command_behind v word.Load (Count b ∷ Count c ∷ Count d ∷ Data x ∷ []) h e = record { sent = command.Load b c d (record { items = x; spare = 0 }); word = refl; values = refl }
+command_behind v word.Unload (Count b ∷ []) h e = record { sent = command.Unload b; word = refl; values = refl }
+command_behind v word.Activate (Count b ∷ []) h e = record { sent = command.Activate b; word = refl; values = refl }
+command_behind v word.Deactivate (Count b ∷ []) h e = record { sent = command.Deactivate b; word = refl; values = refl }
+command_behind v word.Execute (Count b ∷ Count c ∷ Count d ∷ Count x ∷ Count y ∷ []) h e = record { sent = command.Execute b c d x y; word = refl; values = refl }
+command_behind v word.Abort vs h e = record { sent = command.Abort (identifier_at vs 0); word = refl; values = sym (abort_names v vs h e).all }
+command_behind v w _ h e = absurd h
+
+command_of : (v : Version) (w : CommandWord) (vs : List Value) → IsShaped (fields_of (line.Send v w)) vs → values_fit (fields_of (line.Send v w)) vs ≡ true → Sends v w vs
+command_of v w vs h e =
+    let first = identifier_said v [] (Word (word_text w) ∷ command_fields v w) vs h e in
+    let behind = command_behind v w first.rest first.shape first.fits in
+    let id : identifier_at vs 0 ≡ identifier_in (Some first.first) = ap (λ (ws : List Value). identifier_at ws 0) first.all in
+    let with : List Value → Line = λ ws. record { kind = line.Send v w; values = ws } in
+    let values : identifier_value v (identifier_at vs 0) ∷ command_values v behind.sent ≡ vs =
+    ap (λ (n : ℕ). identifier_value v n ∷ command_values v behind.sent) id ∙ ap (λ (ws : List Value). identifier_value v (identifier_in (Some first.first)) ∷ ws) behind.values
+    ∙ ap (λ (x : Value). x ∷ first.rest) (sym first.is) ∙ sym first.all in
+    let word : send_line v (identifier_at vs 0) behind.sent ≡ with (identifier_value v (identifier_at vs 0) ∷ command_values v behind.sent) =
+    ap (λ (x : CommandWord). record { kind = line.Send v x; values = identifier_value v (identifier_at vs 0) ∷ command_values v behind.sent }) behind.word in
+    record {
+      sent = behind.sent;
+      line = word ∙ ap with values;
+    }
 
 -- ---- a draft that keeps a line
 
@@ -80,13 +109,13 @@ abbrev ended_parts : Stage → List HostPart → List Item → List HostPart
 ended_parts (InPart host) hosts items = hosts ++ record { host = host; items = items } ∷ []
 ended_parts _ hosts items = hosts
 
-parts_ended : (s : Stage) (hosts : List HostPart) (items : List Item) → part_lines (ended_parts s hosts items) ≡ part_lines hosts ++ open_part_lines s items
-parts_ended (InPart host) hosts items = part_one_more hosts (record { host = host; items = items })
-parts_ended AtStart hosts items = sym (append-nil (part_lines hosts))
-parts_ended AfterHeader hosts items = sym (append-nil (part_lines hosts))
-parts_ended (AfterNamespace kind n) hosts items = sym (append-nil (part_lines hosts))
-parts_ended InPhase hosts items = sym (append-nil (part_lines hosts))
-parts_ended AfterShow hosts items = sym (append-nil (part_lines hosts))
+parts_ended : (f : Form) (s : Stage) (hosts : List HostPart) (items : List Item) → part_lines f (ended_parts s hosts items) ≡ part_lines f hosts ++ open_part_lines f s items
+parts_ended f (InPart host) hosts items = part_one_more f hosts (record { host = host; items = items })
+parts_ended f AtStart hosts items = sym (append-nil (part_lines f hosts))
+parts_ended f AfterHeader hosts items = sym (append-nil (part_lines f hosts))
+parts_ended f (AfterNamespace kind n) hosts items = sym (append-nil (part_lines f hosts))
+parts_ended f InPhase hosts items = sym (append-nil (part_lines f hosts))
+parts_ended f AfterShow hosts items = sym (append-nil (part_lines f hosts))
 
 abbrev phase_line : Line
 phase_line = numbers_line line.Phase []
@@ -97,22 +126,22 @@ ended_phases (InPart host) phases hosts items = phases ++ record { hosts = ended
 ended_phases InPhase phases hosts items = phases ++ record { hosts = ended_parts InPhase hosts items } ∷ []
 ended_phases _ phases hosts items = phases
 
-phases_ended : (s : Stage) (phases : List declared.Phase) (hosts : List HostPart) (items : List Item) → phase_lines (ended_phases s phases hosts items) ≡ phase_lines phases ++ open_lines s hosts items
-phases_ended (InPart host) phases hosts items =
-    phase_one_more phases (record { hosts = ended_parts (InPart host) hosts items }) ∙ ap (λ (ls : List Line). phase_lines phases ++ phase_line ∷ ls) (parts_ended (InPart host) hosts items)
-phases_ended InPhase phases hosts items =
-    phase_one_more phases (record { hosts = ended_parts InPhase hosts items }) ∙ ap (λ (ls : List Line). phase_lines phases ++ phase_line ∷ ls) (parts_ended InPhase hosts items)
-phases_ended AtStart phases hosts items = sym (append-nil (phase_lines phases))
-phases_ended AfterHeader phases hosts items = sym (append-nil (phase_lines phases))
-phases_ended (AfterNamespace kind n) phases hosts items = sym (append-nil (phase_lines phases))
-phases_ended AfterShow phases hosts items = sym (append-nil (phase_lines phases))
+phases_ended : (f : Form) (s : Stage) (phases : List declared.Phase) (hosts : List HostPart) (items : List Item) → phase_lines f (ended_phases s phases hosts items) ≡ phase_lines f phases ++ open_lines f s hosts items
+phases_ended f (InPart host) phases hosts items =
+    phase_one_more f phases (record { hosts = ended_parts (InPart host) hosts items }) ∙ ap (λ (ls : List Line). phase_lines f phases ++ phase_line ∷ ls) (parts_ended f (InPart host) hosts items)
+phases_ended f InPhase phases hosts items =
+    phase_one_more f phases (record { hosts = ended_parts InPhase hosts items }) ∙ ap (λ (ls : List Line). phase_lines f phases ++ phase_line ∷ ls) (parts_ended f InPhase hosts items)
+phases_ended f AtStart phases hosts items = sym (append-nil (phase_lines f phases))
+phases_ended f AfterHeader phases hosts items = sym (append-nil (phase_lines f phases))
+phases_ended f (AfterNamespace kind n) phases hosts items = sym (append-nil (phase_lines f phases))
+phases_ended f AfterShow phases hosts items = sym (append-nil (phase_lines f phases))
 
 shared : Command → Arc Command Global
 shared c = record { ptr = null_ptr; value = c }
 
-sent_line : (cid : ℕ) (c : Command) → item_line (item.Send cid (shared c)) ≡ send_line cid c
+sent_line : (f : Form) (cid : ℕ) (c : Command) → item_line f (item.Send cid (shared c)) ≡ send_line f.version cid c
 unfolding shared
-sent_line cid c = refl
+sent_line f cid c = refl
 
 show_of : SpaceKind → List Value → Show
 show_of kind vs = record { range = record { space = space_of kind (number_at vs 0); start = number_at vs 1; len = number_at vs 2 } }
@@ -124,34 +153,42 @@ shown space_kind.Nvm _ h = absurd h
 shown space_kind.Mem (Count a ∷ Count b ∷ Count c ∷ []) h = refl
 shown space_kind.Mem _ h = absurd h
 
-taken : (vs : List Value) → IsShaped (fields_of line.Take) vs → item_line (item.Take (number_at vs 0)) ≡ record { kind = line.Take; values = vs }
-taken (Count a ∷ []) h = refl
-taken _ h = absurd h
+taken : (f : Form) (vs : List Value) → IsShaped (fields_of (line.Take f.version)) vs → values_fit (fields_of (line.Take f.version)) vs ≡ true
+    → item_line f (item.Take (identifier_at vs 0)) ≡ record { kind = line.Take f.version; values = vs }
+taken f vs h e = ap (λ (ws : List Value). record { kind = line.Take f.version; values = ws }) (sym (take_says f.version vs h e).all)
 
-keep : (kind : LineKind) (vs : List Value) (d : Drafted) → IsShaped (fields_of kind) vs → Keeps kind vs d
-keep line.Header vs d h = record { kept = d; stored = refl }
-keep (line.Namespace kind) vs d h = record { kept = d; stored = refl }
-keep line.Phase vs d h = record {
+keep : (kind : LineKind) (vs : List Value) (d : Drafted) → IsOfVersion d.progress.form.version kind → IsShaped (fields_of kind) vs → values_fit (fields_of kind) vs ≡ true → Keeps kind vs d
+keep (line.Header v) vs d is h e = record { kept = d; stored = refl }
+keep (line.Namespace kind) vs d is h e = record { kept = d; stored = refl }
+keep line.Phase vs d is h e = record {
   kept = record d { phases = ended_phases d.progress.stage d.phases d.hosts d.items; hosts = []; items = [] };
-  stored = record { phases = phases_ended d.progress.stage d.phases d.hosts d.items; hosts = refl; items = refl; shows = refl };
+  stored = record { phases = phases_ended d.progress.form d.progress.stage d.phases d.hosts d.items; hosts = refl; items = refl; shows = refl };
 }
-keep line.Host vs d h = record {
+keep line.Host vs d is h e = record {
   kept = record d { hosts = ended_parts d.progress.stage d.hosts d.items; items = [] };
-  stored = record { hosts = parts_ended d.progress.stage d.hosts d.items; items = refl; phases = refl; shows = refl };
+  stored = record { hosts = parts_ended d.progress.form d.progress.stage d.hosts d.items; items = refl; phases = refl; shows = refl };
 }
-keep (line.Send w) vs d h =
-    let s = command_of w vs h in
+keep (line.Send v w) vs d is h e =
+    let s = command_of v w vs h e in
+    let f = d.progress.form in
+    let same : item_line f (item.Send (identifier_at vs 0) (shared s.sent)) ≡ record { kind = line.Send v w; values = vs } =
+    sent_line f (identifier_at vs 0) s.sent ∙ ap (λ (x : Version). send_line x (identifier_at vs 0) s.sent) (sym is) ∙ s.line in
     record {
-      kept = record d { items = d.items ++ item.Send (number_at vs 0) (shared s.sent) ∷ [] };
-      stored = record { items = item_one_more d.items (item.Send (number_at vs 0) (shared s.sent)) ∙ ap (λ (l : Line). item_lines d.items ++ l ∷ []) (sent_line (number_at vs 0) s.sent ∙ s.line); hosts = refl; phases = refl; shows = refl };
+      kept = record d { items = d.items ++ item.Send (identifier_at vs 0) (shared s.sent) ∷ [] };
+      stored = record { items = item_one_more f d.items (item.Send (identifier_at vs 0) (shared s.sent)) ∙ ap (λ (l : Line). item_lines f d.items ++ l ∷ []) same; hosts = refl; phases = refl; shows = refl };
     }
-keep line.Take vs d h = record {
-  kept = record d { items = d.items ++ item.Take (number_at vs 0) ∷ [] };
-  stored = record { items = item_one_more d.items (item.Take (number_at vs 0)) ∙ ap (λ (l : Line). item_lines d.items ++ l ∷ []) (taken vs h); hosts = refl; phases = refl; shows = refl };
-}
-keep (line.Show kind) vs d h = record {
+keep (line.Take v) vs d is h e =
+    let f = d.progress.form in
+    let same : item_line f (item.Take (identifier_at vs 0)) ≡ record { kind = line.Take v; values = vs } =
+    taken f vs (subst (λ (x : Version). IsShaped (fields_of (line.Take x)) vs) is h) (subst (λ (x : Version). values_fit (fields_of (line.Take x)) vs ≡ true) is e)
+    ∙ ap (λ (x : Version). record { kind = line.Take x; values = vs }) (sym is) in
+    record {
+      kept = record d { items = d.items ++ item.Take (identifier_at vs 0) ∷ [] };
+      stored = record { items = item_one_more f d.items (item.Take (identifier_at vs 0)) ∙ ap (λ (l : Line). item_lines f d.items ++ l ∷ []) same; hosts = refl; phases = refl; shows = refl };
+    }
+keep (line.Show kind) vs d is h e = record {
   kept = record d { phases = ended_phases d.progress.stage d.phases d.hosts d.items; hosts = []; items = []; shows = d.shows ++ show_of kind vs ∷ [] };
-  stored = record { phases = phases_ended d.progress.stage d.phases d.hosts d.items; hosts = refl; items = refl; shows = show_one_more d.shows (show_of kind vs) ∙ ap (λ (l : Line). show_lines d.shows ++ l ∷ []) (shown kind vs h) };
+  stored = record { phases = phases_ended d.progress.form d.progress.stage d.phases d.hosts d.items; hosts = refl; items = refl; shows = show_one_more d.shows (show_of kind vs) ∙ ap (λ (l : Line). show_lines d.shows ++ l ∷ []) (shown kind vs h) };
 }
 
 -- ---- line by line
@@ -178,9 +215,9 @@ drafts d n [] [] h e = record { whole = d; draft = h; begun = at_end (is_start d
 drafts d n (b ∷ bs) [] h e = absurd (none_at n _ e)
 drafts d n text (next ∷ texts) h e =
     let r = read_on n (read_line d.progress text) (λ q. fault_from q (n + 1) (next ∷ texts)) (sym (fault_two d.progress n text next texts) ∙ e) in
-    let l = bind_ok (line_of text) (judged d.progress) r.0 r.1 in
-    let s = line_says text l.0 l.1 in
-    let k = keep l.0.kind l.0.values d s.line.shape in
+    let l = bind_ok (line_of d.progress.form.version text) (judged d.progress) r.0 r.1 in
+    let s = line_says d.progress.form.version text l.0 l.1 in
+    let k = keep l.0.kind l.0.values d s.version s.line.shape (fits_of d.progress l.0 (passed d.progress l.0 r.0 l.2).limits) in
     let a = adds d k.kept l.0 r.0 h l.2 s.line k.stored in
     let on = drafts (record k.kept { progress = r.0 }) (n + 1) next texts a.draft r.2 in
     record {
@@ -200,13 +237,13 @@ unfolding nothing
 nothing_yet = record { tidy = (refl, refl, refl, refl); limits = header_keeps 512 1 1 refl (omega arith) (omega arith) (omega arith) (omega arith); counted = refl; sized = All-nil IsSizedLine }
 
 script_of : Drafted → Script
-script_of d = record { config = d.progress.config; phases = ended_phases d.progress.stage d.phases d.hosts d.items; shows = d.shows }
+script_of d = record { form = d.progress.form; config = d.progress.config; phases = ended_phases d.progress.stage d.phases d.hosts d.items; shows = d.shows }
 
 whole_lines : (d : Drafted) → is_start d.progress.stage ≡ false → lines_of (script_of d) ≡ draft_lines d
 unfolding script_of
 whole_lines d b =
-    ap (λ (ls : List Line). (configuration_lines d.progress.config ++ ls) ++ show_lines d.shows) (phases_ended d.progress.stage d.phases d.hosts d.items)
-    ∙ finished d.progress.stage d.progress.config (phase_lines d.phases) (open_lines d.progress.stage d.hosts d.items) (show_lines d.shows) b
+    ap (λ (ls : List Line). (configuration_lines d.progress.form d.progress.config ++ ls) ++ show_lines d.shows) (phases_ended d.progress.form d.progress.stage d.phases d.hosts d.items)
+    ∙ finished d.progress.form d.progress.stage d.progress.config (phase_lines d.progress.form d.phases) (open_lines d.progress.form d.progress.stage d.hosts d.items) (show_lines d.shows) b
 
 pub some_script : (text : List ℕ) → first_fault text ≡ None → IsScriptText text
 unfolding nothing

@@ -1,3 +1,4 @@
+pub mod Exact
 pub mod Exists
 pub mod HostLaws
 pub mod Keeping

@@ -1,42 +1,67 @@
 -- What the lines say that keep the limits of their fields.
-use Rattle.std.proofs.Common.{◌≡◌, ℕ, zero, suc, ◌+◌, ◌*◌, ◌≤◌, true, false, Bool, ◌&&◌, cond, eqb, leb, List, [], ◌∷◌, Option, Some, None, refl, subst, arith}
+use Rattle.std.proofs.Common.{◌≡◌, ℕ, zero, suc, ◌+◌, ◌*◌, ◌<◌, ◌≤◌, true, false, Bool, ◌&&◌, cond, eqb, leb, List, [], ◌∷◌, Option, Some, None, refl, sym, ap, subst, arith}
 use Rattle.std.specs.Prelude.{slice_get, unwrap_or}
+use Rattle.std.proofs.Math.Nat.{mul-div_cancel_left, one-mul}
 use Rattle.std.proofs.lemmas.Bool.{leb-true}
 use Rattle.std.proofs.lemmas.Option.{get_or_from_slice_get, slice_get_within}
-use Rattle.cp_base.specs.Configuration.{Configuration, IsWithinLimits, present, size_of}
+use Rattle.cp_base.specs.Configuration.{Configuration, IsWithinLimits, bare, present, size_of}
 use Rattle.cp_base.specs.declared.limits.TheConstants.{MAX_HOSTS, MAX_NAMESPACE, MAX_TRANSFER, NAMESPACES}
+use Rattle.cp_base.specs.Words.{word_text}
 use Rattle.cp_base.specs.declared.words.CommandWord.{CommandWord}
 use Rattle.script_line.specs.declared.kind.LineKind.TheVariants as line
 use Rattle.script_line.specs.declared.kind.SpaceKind.{SpaceKind}
 use Rattle.script_line.specs.declared.kind.SpaceKind.TheVariants as space_kind
-use Rattle.script_line.specs.declared.limits.TheConstants.{MAX_CID, VERSION_1}
-use Rattle.script_line.specs.Field.{IsShaped, Value, Count}
+use Rattle.script_line.specs.declared.limits.TheConstants.{VERSION_1, VERSION_2}
+use Rattle.script_line.specs.declared.version.Version.{Version}
+use Rattle.script_line.specs.declared.version.Version.TheVariants as version
+use Rattle.script_line.proofs.Shapes.{Names, identifier_said, names_by}
+use Rattle.script_line.specs.Field.{IsShaped, Value, Count, Word}
 use Rattle.script_line.specs.Fits.{is_within, values_fit}
-use Rattle.script_line.specs.Line.{counts, fields_of}
-use Rattle.script_line.specs.Values.{number_at}
+use Rattle.script_line.specs.Line.{command_fields, counts, fields_of}
+use Rattle.script_line.specs.Values.{identifier_at, number_at}
 use Rattle.script_cmds.specs.declared.progress.Progress.{Progress}
-use Rattle.script_cmds.specs.Progress.{has_room, is_within_limits, space_of}
+use Rattle.script_cmds.specs.Progress.{has_room, header_budget, header_depth, header_queues, is_within_limits, space_of}
+use Rattle.script_cmds.specs.Text.{header_numbers}
 use Rattle.script_cmds.proofs.Keeping.{both_true}
 
-within_means : (low high n : ℕ) → is_within low high n ≡ true → (low ≤ n) × (n ≤ high)
+pub within_means : (low high n : ℕ) → is_within low high n ≡ true → (low ≤ n) × (n ≤ high)
 within_means low high n e = let p = both_true (leb low n) (leb n high) e in (leb-true low n p.0, leb-true n high p.1)
 
 pub no_value : (vs : List Value) → IsShaped [] vs → vs ≡ []
 no_value [] h = refl
 no_value (v ∷ vs) h = absurd h
 
--- a header
-pub record HeaderSays (vs : List Value) : Type 0 where
-  pub values : vs ≡ counts (number_at vs 0 ∷ number_at vs 1 ∷ number_at vs 2 ∷ [])
-  pub depth : (1 ≤ number_at vs 1) × (number_at vs 1 ≤ VERSION_1.depth)
-  pub budget : (1 ≤ number_at vs 2) × (number_at vs 2 ≤ VERSION_1.budget)
+-- a header: what it says is what is printed of it
+pub record HeaderSays (v : Version) (vs : List Value) : Type 0 where
+  pub values : vs ≡ counts (header_numbers v (header_queues v vs) (bare (number_at vs 0) (header_queues v vs * header_depth v vs) (header_budget v vs)))
+  pub queues : (1 ≤ header_queues v vs) × (header_queues v vs ≤ VERSION_2.queues)
+  pub depth : (1 ≤ header_depth v vs) × (header_depth v vs ≤ VERSION_2.depth)
+  pub budget : (1 ≤ header_budget v vs) × (header_budget v vs ≤ VERSION_2.budget)
 
-pub header_says : (vs : List Value) → IsShaped (fields_of line.Header) vs → values_fit (fields_of line.Header) vs ≡ true → HeaderSays vs
-header_says (Count x ∷ Count y ∷ Count z ∷ []) h e =
+pub header_says : (v : Version) (vs : List Value) → IsShaped (fields_of (line.Header v)) vs → values_fit (fields_of (line.Header v)) vs ≡ true → HeaderSays v vs
+header_says version.One (Count x ∷ Count y ∷ Count z ∷ []) h e =
     let p = both_true (is_within 0 18446744073709551615 x) (is_within 1 VERSION_1.depth y && (is_within 1 VERSION_1.budget z && true)) e in
     let q = both_true (is_within 1 VERSION_1.depth y) (is_within 1 VERSION_1.budget z && true) p.1 in
-    record { values = refl; depth = within_means 1 VERSION_1.depth y q.0; budget = within_means 1 VERSION_1.budget z (both_true (is_within 1 VERSION_1.budget z) true q.1).0 }
-header_says _ h e = absurd h
+    let depth = within_means 1 VERSION_1.depth y q.0 in
+    let budget = within_means 1 VERSION_1.budget z (both_true (is_within 1 VERSION_1.budget z) true q.1).0 in
+    record {
+      values = ap (λ (d : ℕ). counts (x ∷ d ∷ z ∷ [])) (sym (one-mul y));
+      queues = (omega arith, omega arith);
+      depth = (depth.0, omega (arith, depth.1));
+      budget = (budget.0, omega (arith, budget.1));
+    }
+header_says version.Two (Count x ∷ Count q ∷ Count y ∷ Count z ∷ []) h e =
+    let a = both_true (is_within 0 18446744073709551615 x) (is_within 1 VERSION_2.queues q && (is_within 1 VERSION_2.depth y && (is_within 1 VERSION_2.budget z && true))) e in
+    let b = both_true (is_within 1 VERSION_2.queues q) (is_within 1 VERSION_2.depth y && (is_within 1 VERSION_2.budget z && true)) a.1 in
+    let c = both_true (is_within 1 VERSION_2.depth y) (is_within 1 VERSION_2.budget z && true) b.1 in
+    let queues = within_means 1 VERSION_2.queues q b.0 in
+    record {
+      values = ap (λ (d : ℕ). counts (x ∷ q ∷ d ∷ z ∷ [])) (sym (mul-div_cancel_left y queues.0));
+      queues = queues;
+      depth = within_means 1 VERSION_2.depth y c.0;
+      budget = within_means 1 VERSION_2.budget z (both_true (is_within 1 VERSION_2.budget z) true c.1).0;
+    }
+header_says v _ h e = absurd h
 
 -- a namespace
 pub record NamespaceSays (vs : List Value) : Type 0 where
@@ -59,19 +84,14 @@ pub host_says : (vs : List Value) → IsShaped (fields_of line.Host) vs → valu
 host_says (Count x ∷ []) h e = record { values = refl; number = within_means 1 MAX_HOSTS x (both_true (is_within 1 MAX_HOSTS x) true e).0 }
 host_says _ h e = absurd h
 
--- a take
-pub record TakeSays (vs : List Value) : Type 0 where
-  pub values : vs ≡ counts (number_at vs 0 ∷ [])
-  pub cid : number_at vs 0 ≤ MAX_CID
+-- the identifier of a take and of a send line
+pub take_says : (v : Version) (vs : List Value) → IsShaped (fields_of (line.Take v)) vs → values_fit (fields_of (line.Take v)) vs ≡ true → Names v vs
+take_says v vs h e = names_by v vs (identifier_said v [] [] vs h e)
 
-pub take_says : (vs : List Value) → IsShaped (fields_of line.Take) vs → values_fit (fields_of line.Take) vs ≡ true → TakeSays vs
-take_says (Count x ∷ []) h e = record { values = refl; cid = (within_means 0 MAX_CID x (both_true (is_within 0 MAX_CID x) true e).0).1 }
-take_says _ h e = absurd h
-
--- the identifier of a send line
-pub send_cid : (w : CommandWord) (vs : List Value) → IsShaped (fields_of (line.Send w)) vs → values_fit (fields_of (line.Send w)) vs ≡ true → number_at vs 0 ≤ MAX_CID
-send_cid w (Count x ∷ vs) h e = (within_means 0 MAX_CID x (both_true (is_within 0 MAX_CID x) _ e).0).1
-send_cid w _ h e = absurd h
+pub send_says : (v : Version) (w : CommandWord) (vs : List Value) → IsShaped (fields_of (line.Send v w)) vs → values_fit (fields_of (line.Send v w)) vs ≡ true → identifier_at vs 0 < 1048576
+send_says v w vs h e =
+    let first = identifier_said v [] (Word (word_text w) ∷ command_fields v w) vs h e in
+    subst (λ (ws : List Value). identifier_at ws 0 < 1048576) (sym first.all) first.small
 
 -- bytes that are shown
 pub record ShowSays (vs : List Value) : Type 0 where

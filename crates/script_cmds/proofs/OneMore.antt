@@ -9,6 +9,7 @@ use Rattle.script_line.specs.declared.kind.LineKind.TheVariants as line
 use Rattle.script_line.specs.Line.{Line, line_text}
 use Rattle.script_line.specs.Reading.{◌>>=◌}
 use Rattle.script_line.specs.Sized.{AreSized, IsSizedLine}
+use Rattle.script_cmds.specs.declared.form.Form.{Form}
 use Rattle.script_cmds.specs.declared.item.Item.{Item}
 use Rattle.script_cmds.specs.declared.item.HostPart.{HostPart}
 use Rattle.script_cmds.specs.declared.item.Phase as declared
@@ -39,23 +40,23 @@ text_one_more (m ∷ ms) l = ap (λ (t : List ℕ). line_text m ++ 10 ∷ t) (te
 pub sized_one_more : (ls : List Line) (l : Line) → AreSized ls → IsSizedLine l → AreSized (ls ++ l ∷ [])
 sized_one_more ls l h s = All-append IsSizedLine ls (l ∷ []) h (All-cons IsSizedLine l [] s (All-nil IsSizedLine))
 
-pub item_one_more : (xs : List Item) (x : Item) → item_lines (xs ++ x ∷ []) ≡ item_lines xs ++ item_line x ∷ []
-item_one_more [] x = refl
-item_one_more (y ∷ ys) x = ap (λ (ls : List Line). item_line y ∷ ls) (item_one_more ys x)
+pub item_one_more : (f : Form) (xs : List Item) (x : Item) → item_lines f (xs ++ x ∷ []) ≡ item_lines f xs ++ item_line f x ∷ []
+item_one_more f [] x = refl
+item_one_more f (y ∷ ys) x = ap (λ (ls : List Line). item_line f y ∷ ls) (item_one_more f ys x)
 
 pub show_one_more : (xs : List Show) (x : Show) → show_lines (xs ++ x ∷ []) ≡ show_lines xs ++ show_line x ∷ []
 show_one_more [] x = refl
 show_one_more (y ∷ ys) x = ap (λ (ls : List Line). show_line y ∷ ls) (show_one_more ys x)
 
-pub part_one_more : (xs : List HostPart) (x : HostPart) → part_lines (xs ++ x ∷ []) ≡ part_lines xs ++ numbers_line line.Host (x.host ∷ []) ∷ item_lines x.items
-part_one_more [] x = ap (λ (ls : List Line). numbers_line line.Host (x.host ∷ []) ∷ ls) (append-nil (item_lines x.items))
-part_one_more (y ∷ ys) x =
-    ap (λ (ls : List Line). numbers_line line.Host (y.host ∷ []) ∷ item_lines y.items ++ ls) (part_one_more ys x) ∙ sym (append_assoc (numbers_line line.Host (y.host ∷ []) ∷ item_lines y.items) (part_lines ys) (numbers_line line.Host (x.host ∷ []) ∷ item_lines x.items))
+pub part_one_more : (f : Form) (xs : List HostPart) (x : HostPart) → part_lines f (xs ++ x ∷ []) ≡ part_lines f xs ++ numbers_line line.Host (x.host ∷ []) ∷ item_lines f x.items
+part_one_more f [] x = ap (λ (ls : List Line). numbers_line line.Host (x.host ∷ []) ∷ ls) (append-nil (item_lines f x.items))
+part_one_more f (y ∷ ys) x =
+    ap (λ (ls : List Line). numbers_line line.Host (y.host ∷ []) ∷ item_lines f y.items ++ ls) (part_one_more f ys x) ∙ sym (append_assoc (numbers_line line.Host (y.host ∷ []) ∷ item_lines f y.items) (part_lines f ys) (numbers_line line.Host (x.host ∷ []) ∷ item_lines f x.items))
 
-pub phase_one_more : (xs : List declared.Phase) (x : declared.Phase) → phase_lines (xs ++ x ∷ []) ≡ phase_lines xs ++ numbers_line line.Phase [] ∷ part_lines x.hosts
-phase_one_more [] x = ap (λ (ls : List Line). numbers_line line.Phase [] ∷ ls) (append-nil (part_lines x.hosts))
-phase_one_more (y ∷ ys) x =
-    ap (λ (ls : List Line). numbers_line line.Phase [] ∷ part_lines y.hosts ++ ls) (phase_one_more ys x) ∙ sym (append_assoc (numbers_line line.Phase [] ∷ part_lines y.hosts) (phase_lines ys) (numbers_line line.Phase [] ∷ part_lines x.hosts))
+pub phase_one_more : (f : Form) (xs : List declared.Phase) (x : declared.Phase) → phase_lines f (xs ++ x ∷ []) ≡ phase_lines f xs ++ numbers_line line.Phase [] ∷ part_lines f x.hosts
+phase_one_more f [] x = ap (λ (ls : List Line). numbers_line line.Phase [] ∷ ls) (append-nil (part_lines f x.hosts))
+phase_one_more f (y ∷ ys) x =
+    ap (λ (ls : List Line). numbers_line line.Phase [] ∷ part_lines f y.hosts ++ ls) (phase_one_more f ys x) ∙ sym (append_assoc (numbers_line line.Phase [] ∷ part_lines f y.hosts) (phase_lines f ys) (numbers_line line.Phase [] ∷ part_lines f x.hosts))
 
 -- ---- a namespace more
 

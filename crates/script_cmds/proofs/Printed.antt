@@ -43,9 +43,9 @@ prints_line line old new p = record { text = p.text; sized = All-cons IsSizedLin
 
 -- a whole script
 pub script_printed : (script : Script) (phases : List Phase) (shows : List Show) (old begun half end : List ℕ) → old ≡ [] → phases ≡ script.phases → shows ≡ script.shows
-    → Prints (configuration_lines script.config) old begun → Prints (phase_lines phases) begun half → Prints (show_lines shows) half end → Prints (lines_of script) [] end
+    → Prints (configuration_lines script.form script.config) old begun → Prints (phase_lines script.form phases) begun half → Prints (show_lines shows) half end → Prints (lines_of script) [] end
 script_printed script phases shows old begun half end none same shown a b c =
-    prints_three (configuration_lines script.config) (phase_lines script.phases) (show_lines script.shows) [] begun half end
-    (subst (λ (t : List ℕ). Prints (configuration_lines script.config) t begun) none a)
-    (subst (λ (xs : List Phase). Prints (phase_lines xs) begun half) same b)
+    prints_three (configuration_lines script.form script.config) (phase_lines script.form script.phases) (show_lines script.shows) [] begun half end
+    (subst (λ (t : List ℕ). Prints (configuration_lines script.form script.config) t begun) none a)
+    (subst (λ (xs : List Phase). Prints (phase_lines script.form xs) begun half) same b)
     (subst (λ (xs : List Show). Prints (show_lines xs) half end) shown c)

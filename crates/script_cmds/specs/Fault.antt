@@ -12,12 +12,12 @@ use Rattle.script_cmds.specs.Progress.{start, is_in_order, is_within_limits, adv
 -- what there is after a line, by its place and then its limits
 abbrev pub judged : Progress → Line → Result Progress TextCause
 judged p line =
-    if is_in_order p.stage line.kind line.values then if is_within_limits p line then Ok (advanced p line.kind line.values) else Err cause.Limit else Err cause.Order
+    if is_in_order p.form.version p.stage line.kind line.values then if is_within_limits p line then Ok (advanced p line.kind line.values) else Err cause.Limit else Err cause.Order
 
--- A line by its text: its kind, its fields, its place and its limits are looked at in this order, and
+-- A line by its text, in the version of the script: its kind, its fields, its place and its limits are looked at in this order, and
 -- the first of them that is wrong is the cause.
 abbrev pub read_line : Progress → List ℕ → Result Progress TextCause
-read_line p text = line_of text >>= judged p
+read_line p text = line_of p.form.version text >>= judged p
 
 -- what there is after lines, where each of them is in its place and keeps its limits
 abbrev pub after_lines : Progress → List Line → Result Progress TextCause

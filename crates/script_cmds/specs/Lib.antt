@@ -4,5 +4,6 @@ pub mod Fault
 pub mod Hosts
 pub mod Kept
 pub mod Progress
+pub mod Queues
 pub mod Text
 pub mod private

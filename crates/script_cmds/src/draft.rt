@@ -6,6 +6,7 @@ ghost use Rattle.script_line.specs.Fits.{values_fit};
 ghost use Rattle.script_line.specs.Line.{fields_of};
 ghost use Rattle.script_line.specs.Sized.{IsLine};
 ghost use Rattle.script_line.specs.Values.{Fails, line_view, number_at, value_view};
+ghost use Rattle.script_line.specs.Versions.{IsOfVersion};
 ghost use Rattle.script_line.specs.declared.kind.LineKind.TheVariants as line_kind;
 ghost use Rattle.script_cmds.specs.Fault.{judged, read_line};
 ghost use Rattle.script_cmds.specs.Progress.{is_start, is_within_limits, start};
@@ -18,7 +19,8 @@ use crate::progress::{Progress, Stage};
 use crate::{HostPart, Item, Phase, Script, Show};
 use cp_base::{ByteRange, CommandWord, NoMemory, Sequence};
 use script_line::{
-    FieldValue, LineEnd, LineKind, ReadLine, SpaceKind, command_of, number_at, read_line,
+    FieldValue, LineEnd, LineKind, ReadLine, SpaceKind, Version, command_of, identifier_at,
+    number_at, read_line,
 };
 use std::alloc::Global;
 use std::marker::Model;
@@ -74,7 +76,7 @@ impl Draft {
         ensures read { OnOk result (read_line self.old.progress text.now ≡ Ok self.new.progress) }
         ensures fault { IfErr result (λ end. Fails end (read_line self.old.progress text.now)) }
     {
-        let line = read_line(alloc, text)?;
+        let line = read_line(alloc, self.progress.form.version, text)?;
         let after = match self.progress.after(&line) {
             Ok(after) => after,
             Err(cause) => return Err(LineEnd::Fault(cause)),
@@ -88,6 +90,7 @@ impl Draft {
         requires draft { IsDraft self.old }
         requires after { judged self.old.progress (line_view line) ≡ Ok after }
         requires line { IsLine (line_view line) }
+        requires version { IsOfVersion self.old.progress.form.version line.kind }
         ensures draft { OnOk result (IsDraft self.new) }
         ensures lines { OnOk result (draft_lines self.new ≡ draft_lines self.old ++ line_view line ∷ []) }
         ensures progress { OnOk result (self.new.progress ≡ after) }
@@ -109,14 +112,15 @@ impl Draft {
         requires limits { IsWithinLimits self.old.progress.config }
         requires judged { is_within_limits self.old.progress (line_view line) ≡ true }
         requires line { IsLine (line_view line) }
+        requires version { IsOfVersion self.old.progress.form.version line.kind }
         ensures { OnOk result (Stored line.kind (line_view line).values self.old self.new) }
     {
         match line.kind {
-            LineKind::Header | LineKind::Namespace(_) => Ok(()),
+            LineKind::Header(_) | LineKind::Namespace(_) => Ok(()),
             LineKind::Phase => self.close_phase(alloc),
             LineKind::Host => self.close_part(alloc),
-            LineKind::Send(word) => self.send(alloc, word, line.values),
-            LineKind::Take => self.take(line.values.as_slice()),
+            LineKind::Send(version, word) => self.send(alloc, version, word, line.values),
+            LineKind::Take(version) => self.take(version, line.values.as_slice()),
             LineKind::Show(kind) => self.show(alloc, kind, line.values.as_slice()),
         }
     }
@@ -165,32 +169,35 @@ impl Draft {
     }
 
     // Adds a command that the open host sends.
-    #[tactic(auto, using(crate::proofs::OneMore::item_one_more))]
+    #[tactic(auto, using(crate::proofs::OneMore::item_one_more, crate::proofs::Meanings::send_says))]
     fn send(
         &mut self,
         alloc: Global,
+        version: Version,
         word: CommandWord,
         values: Vec<FieldValue>,
     ) -> Result<(), NoMemory>
-        requires line { IsLine (record { kind = line_kind.Send word; values = map value_view values.items }) }
-        requires fits { values_fit (fields_of (line_kind.Send word)) (map value_view values.items) ≡ true }
-        ensures { OnOk result (AddsItem (record { kind = line_kind.Send word; values = map value_view values.items }) self.old self.new) }
+        requires version { version ≡ self.old.progress.form.version }
+        requires line { IsLine (record { kind = line_kind.Send version word; values = map value_view values.items }) }
+        requires fits { values_fit (fields_of (line_kind.Send version word)) (map value_view values.items) ≡ true }
+        ensures { OnOk result (AddsItem (record { kind = line_kind.Send version word; values = map value_view values.items }) self.old self.new) }
     {
-        let cid = number_at(values.as_slice(), 0) as u32;
-        let command = command_of(alloc, word, values)?;
+        let cid = identifier_at(values.as_slice(), 0) as u32;
+        let command = command_of(alloc, version, word, values)?;
         let command = Arc::new(alloc, command)?;
         self.items.push(Item::Send { cid, command })?;
         Ok(())
     }
 
     // Adds a reply that the open host takes.
-    #[tactic(auto, using(crate::proofs::OneMore::item_one_more))]
-    fn take(&mut self, values: &[FieldValue]) -> Result<(), NoMemory>
-        requires line { IsLine (record { kind = line_kind.Take; values = map value_view values.now }) }
-        requires fits { values_fit (fields_of line_kind.Take) (map value_view values.now) ≡ true }
-        ensures { OnOk result (AddsItem (record { kind = line_kind.Take; values = map value_view values.now }) self.old self.new) }
+    #[tactic(auto, using(crate::proofs::OneMore::item_one_more, crate::proofs::Meanings::take_says))]
+    fn take(&mut self, version: Version, values: &[FieldValue]) -> Result<(), NoMemory>
+        requires version { version ≡ self.old.progress.form.version }
+        requires line { IsLine (record { kind = line_kind.Take version; values = map value_view values.now }) }
+        requires fits { values_fit (fields_of (line_kind.Take version)) (map value_view values.now) ≡ true }
+        ensures { OnOk result (AddsItem (record { kind = line_kind.Take version; values = map value_view values.now }) self.old self.new) }
     {
-        let cid = number_at(values, 0) as u32;
+        let cid = identifier_at(values, 0) as u32;
         self.items.push(Item::Take { cid })?;
         Ok(())
     }
@@ -219,10 +226,13 @@ impl Draft {
     pub fn finish(mut self, alloc: Global) -> Result<Script, NoMemory>
         requires draft { IsDraft self }
         requires some { is_start self.progress.stage ≡ false }
-        ensures { IfOk result (λ script. lines_of script ≡ draft_lines self) }
+        ensures lines { IfOk result (λ script. lines_of script ≡ draft_lines self) }
+        ensures form { IfOk result (λ script. script.form ≡ self.progress.form) }
+        ensures config { IfOk result (λ script. script.config ≡ self.progress.config) }
     {
         self.close_phase(alloc)?;
         Ok(Script {
+            form: self.progress.form,
             config: self.progress.config,
             phases: Sequence::new(self.phases),
             shows: Sequence::new(self.shows),

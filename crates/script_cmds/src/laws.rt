@@ -1,11 +1,12 @@
 // Laws of the texts of scripts. The functions do nothing; their clauses are the laws.
 ghost use Rattle.std.specs.Prelude.{◌≡◌, ◌≤◌, ℕ, List, None};
 ghost use Rattle.script_line.specs.Sized.{AreSized};
-ghost use Rattle.script_line.specs.declared.limits.TheConstants.{VERSION_1};
+ghost use Rattle.script_line.specs.Versions.{limits_of};
 ghost use Rattle.script_cmds.specs.Counts.{sends_in_phases};
 ghost use Rattle.script_cmds.specs.Fault.{first_fault};
 ghost use Rattle.script_cmds.specs.Hosts.{HaveHosts};
 ghost use Rattle.script_cmds.specs.Kept.{IsScriptText, KeepsOrderAndLimits};
+ghost use Rattle.script_cmds.specs.Queues.{PhasesSendToQueues, queues_of};
 ghost use Rattle.script_cmds.specs.Text.{lines_of, script_text};
 ghost use Rattle.script_cmds.specs.declared.script.Script.{Script};
 
@@ -20,9 +21,10 @@ pub fn script_laws()
     ensures some_script { (text : List ℕ) → first_fault text ≡ None → IsScriptText text }
 {}
 
-/// In each phase of a script that keeps order and limits the hosts ascend and are 1 to 16, and it sends no
-/// more commands than its version allows.
+/// In each phase of a script that keeps order and limits the hosts ascend and are 1 to 16. It sends no more
+/// commands than its version allows, and each to one of its queues.
 pub fn limit_laws()
     ensures hosts { (script : Script) → KeepsOrderAndLimits script → HaveHosts script.phases }
-    ensures sends { (script : Script) → KeepsOrderAndLimits script → sends_in_phases script.phases ≤ VERSION_1.sends }
+    ensures sends { (script : Script) → KeepsOrderAndLimits script → sends_in_phases script.phases ≤ (limits_of script.form.version).sends }
+    ensures queues { (script : Script) → KeepsOrderAndLimits script → PhasesSendToQueues (queues_of script.form) script.phases }
 {}

@@ -4,6 +4,7 @@
 mod draft;
 mod examples;
 mod fault;
+mod form;
 mod item;
 mod laws;
 mod limits;
@@ -14,6 +15,7 @@ mod script;
 
 pub use examples::faults_by_example;
 pub use fault::{ParseEnd, ScriptFault};
+pub use form::Form;
 pub use item::{HostPart, Item, Phase, Show};
 pub use laws::{limit_laws, script_laws};
 pub use parsing::parse;

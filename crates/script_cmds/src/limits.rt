@@ -2,7 +2,7 @@
 ghost use Rattle.std.specs.Prelude.{◌≡◌, ◌+◌, ◌≤◌, nat_le, Some, None, unwrap_or, if◌then◌else◌};
 ghost use Rattle.cp_base.specs.Configuration.{IsWithinLimits, bare, size_of, with_size};
 ghost use Rattle.cp_base.specs.declared.limits.TheConstants.{MAX_NAMESPACE, NAMESPACES};
-ghost use Rattle.script_line.specs.declared.limits.TheConstants.{VERSION_1};
+ghost use Rattle.script_line.specs.declared.limits.TheConstants.{VERSION_2};
 ghost use Rattle.script_cmds.specs.Progress.{is_block, namespace_fits, size_in_bytes, space_of};
 
 use cp_base::{Config, SpaceId};
@@ -18,10 +18,10 @@ pub fn space_of(kind: SpaceKind, number: u32) -> SpaceId
     }
 }
 
-/// The configuration of a header, where the size of its block is one.
+/// The configuration of a header with the depth of all queues together, where the size of its block is one.
 pub fn bare(block: u64, depth: u64, budget: u64) -> Option<Config>
-    requires depth { (1 ≤ depth) × (depth ≤ VERSION_1.depth) }
-    requires budget { (1 ≤ budget) × (budget ≤ VERSION_1.budget) }
+    requires depth { (1 ≤ depth) × (depth ≤ VERSION_2.outstanding) }
+    requires budget { (1 ≤ budget) × (budget ≤ VERSION_2.budget) }
     ensures { result ≡ (if is_block block then Some (bare block depth budget) else None) }
 {
     if block > 4_096 {

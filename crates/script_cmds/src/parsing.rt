@@ -4,6 +4,7 @@ ghost use Rattle.script_line.specs.Sized.{AreSized};
 ghost use Rattle.script_cmds.specs.Ends.{Tells};
 ghost use Rattle.script_cmds.specs.Fault.{first_fault, newlines, read_line};
 ghost use Rattle.script_cmds.specs.Kept.{KeepsOrderAndLimits};
+ghost use Rattle.script_cmds.specs.Queues.{AreExact};
 ghost use Rattle.script_cmds.specs.private.Drafts.{IsDraft, draft_lines};
 ghost use Rattle.script_cmds.specs.private.Faults.{Faults};
 ghost use Rattle.script_cmds.specs.declared.fault.ParseEnd.TheVariants as end;
@@ -26,6 +27,7 @@ pub fn parse(alloc: Global, text: &Bytes) -> Result<Script, ParseEnd>
     ensures text { IfOk result (λ script. script_text script ≡ text.now.items) }
     ensures accepted { OnOk result (first_fault text.now.items ≡ None) }
     ensures order_and_limits { IfOk result KeepsOrderAndLimits }
+    ensures queues { IfOk result (λ script. AreExact script.form script.config.depth) }
     ensures sized { IfOk result (λ script. AreSized (lines_of script)) }
     ensures lines { IfOk result (λ script. length (lines_of script) ≤ 4294967294) }
     ensures fault { IfErr result (λ end. Tells end (first_fault text.now.items)) }

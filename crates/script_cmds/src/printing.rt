@@ -1,5 +1,5 @@
 // A whole script as its one text.
-ghost use Rattle.std.specs.Prelude.{◌≡◌, ℕ, ◌≤◌, ◌∷◌, [], None, length, IsTrue, IfOk, OnOk};
+ghost use Rattle.std.specs.Prelude.{◌≡◌, ℕ, ◌≤◌, ◌∷◌, [], None, length, IfOk, OnOk};
 ghost use Rattle.cp_base.specs.declared.limits.TheConstants.{NAMESPACES};
 ghost use Rattle.script_line.specs.Field.{IsShaped};
 ghost use Rattle.script_line.specs.Line.{Line, counts, fields_of};
@@ -8,14 +8,14 @@ ghost use Rattle.script_line.specs.Sized.{AreSized};
 ghost use Rattle.script_cmds.specs.Fault.{first_fault};
 ghost use Rattle.script_cmds.specs.Kept.{KeepsOrderAndLimits};
 ghost use Rattle.script_cmds.specs.private.Printing.{Prints};
-ghost use Rattle.script_cmds.specs.Text.{configuration_lines, item_line, item_lines, lines_of, numbers_line, part_lines, phase_lines, script_text, show_line, show_lines, size_lines};
+ghost use Rattle.script_cmds.specs.Text.{configuration_lines, header_line, item_line, item_lines, lines_of, numbers_line, part_lines, phase_lines, script_text, show_line, show_lines, size_lines};
 ghost use Rattle.script_line.specs.declared.content.FieldContent.TheVariants as said;
 ghost use Rattle.script_line.specs.declared.kind.LineKind.TheVariants as line_kind;
 
-use crate::{HostPart, Item, Phase, Script, Show};
+use crate::{Form, HostPart, Item, Phase, Script, Show};
 use cp_base::{Bytes, Config, NoMemory, SpaceId};
 use script_line::FieldContent::{self, Count};
-use script_line::{LineKind, SpaceKind, push_line, push_send};
+use script_line::{LineKind, SpaceKind, Version, push_line, push_send, push_take};
 use std::alloc::Global;
 
 /// The one text of a script: its lines in their order, each ended by a newline. `parse` reads it again
@@ -27,30 +27,37 @@ pub fn print(alloc: Global, script: &Script) -> Result<Bytes, NoMemory>
         → first_fault (script_text script.now) ≡ None) }
 {
     let mut out = Bytes::new(alloc);
-    push_configuration(&mut out, &script.config)?;
-    push_phases(&mut out, script.phases.as_slice())?;
+    push_configuration(&mut out, script.form, &script.config)?;
+    push_phases(&mut out, script.form, script.phases.as_slice())?;
     push_shows(&mut out, script.shows.as_slice())?;
     Ok(out)
 }
 
 // Adds the header and the lines of the namespaces.
-fn push_configuration(out: &mut Bytes, config: &Config) -> Result<(), NoMemory>
-    ensures { OnOk result (Prints (configuration_lines config.now) out.old.items out.new.items) }
+fn push_configuration(out: &mut Bytes, form: Form, config: &Config) -> Result<(), NoMemory>
+    ensures { OnOk result (Prints (configuration_lines form config.now) out.old.items out.new.items) }
 {
-    push_header(out, config)?;
+    push_header(out, form, config)?;
     push_sizes(out, SpaceKind::Nvm, config.nvm())?;
     push_sizes(out, SpaceKind::Mem, config.mem())?;
     Ok(())
 }
 
 // Adds the header.
-fn push_header(out: &mut Bytes, config: &Config) -> Result<(), NoMemory>
-    ensures { OnOk result (Prints (numbers_line line_kind.Header (config.now.block ∷ config.now.depth ∷ config.now.budget ∷ []) ∷ []) out.old.items out.new.items) }
+fn push_header(out: &mut Bytes, form: Form, config: &Config) -> Result<(), NoMemory>
+    ensures { OnOk result (Prints (header_line form config.now ∷ []) out.old.items out.new.items) }
 {
+    let kind = LineKind::Header(form.version);
     let block = small(config.block());
     let depth = small(config.depth());
     let budget = Count(config.budget());
-    push_line(out, LineKind::Header, &[block, depth, budget])
+    match form.version {
+        Version::One => push_line(out, kind, &[block, depth, budget]),
+        Version::Two => {
+            let depth = small(config.depth().checked_div(form.queues).unwrap_or(0));
+            push_line(out, kind, &[block, small(form.queues), depth, budget])
+        }
+    }
 }
 
 // A number of 32 bits as a field's content.
@@ -88,44 +95,44 @@ fn push_size(out: &mut Bytes, kind: SpaceKind, number: u32, size: u32) -> Result
 }
 
 // Adds the lines of phases.
-fn push_phases(out: &mut Bytes, phases: &[Phase]) -> Result<(), NoMemory>
-    ensures { OnOk result (Prints (phase_lines phases.now) out.old.items out.new.items) }
+fn push_phases(out: &mut Bytes, form: Form, phases: &[Phase]) -> Result<(), NoMemory>
+    ensures { OnOk result (Prints (phase_lines form phases.now) out.old.items out.new.items) }
 {
     for phase in phases {
         push_line(out, LineKind::Phase, &[])?;
-        push_parts(out, phase.hosts.as_slice())?;
+        push_parts(out, form, phase.hosts.as_slice())?;
     }
     Ok(())
 }
 
 // Adds the lines of the parts of a phase.
-fn push_parts(out: &mut Bytes, parts: &[HostPart]) -> Result<(), NoMemory>
-    ensures { OnOk result (Prints (part_lines parts.now) out.old.items out.new.items) }
+fn push_parts(out: &mut Bytes, form: Form, parts: &[HostPart]) -> Result<(), NoMemory>
+    ensures { OnOk result (Prints (part_lines form parts.now) out.old.items out.new.items) }
 {
     for part in parts {
         push_line(out, LineKind::Host, &[small(part.host)])?;
-        push_items(out, part.items.as_slice())?;
+        push_items(out, form, part.items.as_slice())?;
     }
     Ok(())
 }
 
 // Adds the lines of what a host does.
-fn push_items(out: &mut Bytes, items: &[Item]) -> Result<(), NoMemory>
-    ensures { OnOk result (Prints (item_lines items.now) out.old.items out.new.items) }
+fn push_items(out: &mut Bytes, form: Form, items: &[Item]) -> Result<(), NoMemory>
+    ensures { OnOk result (Prints (item_lines form items.now) out.old.items out.new.items) }
 {
     for item in items {
-        push_item(out, item)?;
+        push_item(out, form, item)?;
     }
     Ok(())
 }
 
 // Adds the line of one thing that a host does.
-fn push_item(out: &mut Bytes, item: &Item) -> Result<(), NoMemory>
-    ensures { OnOk result (Prints (item_line item.now ∷ []) out.old.items out.new.items) }
+fn push_item(out: &mut Bytes, form: Form, item: &Item) -> Result<(), NoMemory>
+    ensures { OnOk result (Prints (item_line form item.now ∷ []) out.old.items out.new.items) }
 {
     match item {
-        Item::Send { cid, command } => push_send(out, *cid, command),
-        Item::Take { cid } => push_line(out, LineKind::Take, &[small(*cid)]),
+        Item::Send { cid, command } => push_send(out, form.version, *cid, command),
+        Item::Take { cid } => push_take(out, form.version, *cid),
     }
 }
 

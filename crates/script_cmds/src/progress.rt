@@ -1,19 +1,25 @@
 // What a reader of a script has to know of the lines so far: which line may follow, and how much has
 // been used of each limit.
-ghost use Rattle.std.specs.Prelude.{◌≡◌, ◌+◌, ◌&&◌, nat_lt, true, Some, None, if◌then◌else◌, map};
+ghost use Rattle.std.specs.Prelude.{◌≡◌, ◌+◌, ◌&&◌, nat_le, nat_lt, true, Some, None, if◌then◌else◌, map};
+ghost use Rattle.std.specs.List.{list_all};
 ghost use Rattle.cp_base.specs.Configuration.{IsWithinLimits};
 ghost use Rattle.script_line.specs.Field.{IsShaped};
 ghost use Rattle.script_line.specs.Fits.{values_fit};
 ghost use Rattle.script_line.specs.Line.{fields_of};
-ghost use Rattle.script_line.specs.Values.{line_view, value_view};
+ghost use Rattle.script_line.specs.Values.{line_view, queue_in, value_view};
+ghost use Rattle.script_line.specs.Versions.{limits_of};
 ghost use Rattle.script_cmds.specs.Fault.{judged};
-ghost use Rattle.script_cmds.specs.Progress.{advanced, follows, has_room, host_follows, is_after_show, is_in_order, is_in_part, is_start, namespace_follows, start};
+ghost use Rattle.script_cmds.specs.Progress.{advanced, follows, has_room, header_budget, header_depth, header_queues, host_follows, is_after_show, is_in_order, is_in_part, is_start, names_queues, namespace_follows, same_version, start};
+ghost use Rattle.script_line.specs.declared.field.FieldValue.{FieldValue};
+ghost use Rattle.script_line.specs.declared.kind.LineKind.TheVariants as line_kind;
 ghost use Rattle.script_cmds.specs.declared.progress.Stage.TheVariants as stage;
 
+use crate::Form;
 use crate::limits::{bare, has_bytes, with_namespace};
 use cp_base::Config;
 use script_line::{
-    FieldValue, LineKind, ReadLine, ScriptLimits, SpaceKind, TextCause, VERSION_1, fits, number_at,
+    FieldValue, LineKind, ReadLine, ScriptLimits, SpaceKind, TextCause, Version, fits, number_at,
+    queue_at,
 };
 
 /// Where a script stands after a line.
@@ -42,6 +48,13 @@ fn follows(last: SpaceKind, before: u64, kind: SpaceKind, number: u64) -> bool
         (SpaceKind::Nvm, SpaceKind::Mem) => true,
         (SpaceKind::Mem, SpaceKind::Nvm) => false,
     }
+}
+
+// Whether each queue that is named is one of so many.
+fn are_within(queues: u64, values: &[FieldValue]) -> bool
+    ensures { result ≡ list_all (λ (value : FieldValue). nat_le (queue_in (Some (value_view value))) queues) values.now }
+{
+    values.iter().all(|value| value.queue() <= queues)
 }
 
 impl Stage {
@@ -107,26 +120,26 @@ impl Stage {
     }
 
     // Whether a line may stand here.
-    fn is_in_order(self, kind: LineKind, values: &[FieldValue]) -> bool
-        ensures { result ≡ is_in_order self kind (map value_view values.now) }
+    fn is_in_order(self, version: Version, kind: LineKind, values: &[FieldValue]) -> bool
+        ensures { result ≡ is_in_order version self kind (map value_view values.now) }
     {
         match kind {
-            LineKind::Header => self.is_start(),
+            LineKind::Header(_) => self.is_start(),
             LineKind::Namespace(kind) => self.namespace_follows(kind, number_at(values, 0)),
             LineKind::Phase => !self.is_start() && !self.is_after_show(),
             LineKind::Host => self.host_follows(number_at(values, 0)),
-            LineKind::Send(_) | LineKind::Take => self.is_in_part(),
+            LineKind::Send(own, _) | LineKind::Take(own) => self.is_in_part() && own == version,
             LineKind::Show(_) => !self.is_start(),
         }
     }
 }
 
-/// The stage, the limits of the script's version, the configuration so far, and how many send, phase and
+/// The stage, the form of the script, the configuration so far, and how many send, phase and
 /// show lines there were.
 #[derive(Clone, Copy, Debug)]
 pub struct Progress {
     pub stage: Stage,
-    pub limits: ScriptLimits,
+    pub form: Form,
     pub config: Config,
     pub sends: u32,
     pub phases: u32,
@@ -141,7 +154,10 @@ impl Progress {
     {
         Progress {
             stage: Stage::AtStart,
-            limits: VERSION_1,
+            form: Form {
+                version: Version::One,
+                queues: 1,
+            },
             config: Config::new(512, 1, 1).unwrap(),
             sends: 0,
             phases: 0,
@@ -155,7 +171,10 @@ impl Progress {
         requires shape { IsShaped (fields_of line.now.kind) (line_view line.now).values }
         ensures { result ≡ judged self.now (line_view line.now) }
     {
-        if !self.stage.is_in_order(line.kind, line.values.as_slice()) {
+        if !self
+            .stage
+            .is_in_order(self.form.version, line.kind, line.values.as_slice())
+        {
             return Err(TextCause::Order);
         }
         if !fits(line) {
@@ -180,12 +199,7 @@ impl Progress {
         let second = number_at(values, 1);
         let third = number_at(values, 2);
         match kind {
-            LineKind::Header => Some(Progress {
-                stage: Stage::AfterHeader,
-                limits: VERSION_1,
-                config: bare(first, second, third)?,
-                ..*self
-            }),
+            LineKind::Header(version) => self.with_header(version, values),
             LineKind::Namespace(kind) => Some(Progress {
                 stage: Stage::AfterNamespace(kind, first),
                 config: with_namespace(&self.config, kind, first, second)?,
@@ -196,18 +210,60 @@ impl Progress {
                 stage: Stage::InPart(first as u32),
                 ..*self
             }),
-            LineKind::Send(_) => self.with_send(),
-            LineKind::Take => Some(*self),
+            LineKind::Send(_, _) => self.with_send(values),
+            LineKind::Take(_) => self.with_take(values),
             LineKind::Show(kind) => {
                 self.with_show(has_bytes(&self.config, kind, first, second, third))
             }
         }
     }
 
-    fn with_phase(&self) -> Option<Progress>
-        ensures { result ≡ (if nat_lt self.now.phases self.now.limits.phases then Some (record self.now { stage = stage.InPhase; phases = self.now.phases + 1 }) else None) }
+    // After a header of this version.
+    fn with_header(&self, version: Version, values: &[FieldValue]) -> Option<Progress>
+        requires shape { IsShaped (fields_of (line_kind.Header version)) (map value_view values.now) }
+        requires fits { values_fit (fields_of (line_kind.Header version)) (map value_view values.now) ≡ true }
+        ensures { result ≡ (if has_room self.now (line_kind.Header version) (map value_view values.now)
+            then Some (advanced self.now (line_kind.Header version) (map value_view values.now))
+            else None) }
     {
-        if self.phases >= self.limits.phases {
+        let (queues, behind) = match version {
+            Version::One => (1, 1),
+            Version::Two => (number_at(values, 1), 2),
+        };
+        let depth = queues * number_at(values, behind);
+        if depth > version.limits().outstanding {
+            return None;
+        }
+        Some(Progress {
+            stage: Stage::AfterHeader,
+            form: Form {
+                version,
+                queues: queues as u32,
+            },
+            config: bare(number_at(values, 0), depth, number_at(values, behind + 1))?,
+            ..*self
+        })
+    }
+
+    // The limits of the script's version.
+    fn limits(&self) -> ScriptLimits
+        ensures { result ≡ limits_of self.now.form.version }
+    {
+        self.form.version.limits()
+    }
+
+    // Whether each queue that a line names is one of the script's.
+    fn has_queues(&self, values: &[FieldValue]) -> bool
+        ensures { result ≡ names_queues self.now.form.queues (map value_view values.now) }
+    {
+        let queues = u64::from(self.form.queues);
+        are_within(queues, values)
+    }
+
+    fn with_phase(&self) -> Option<Progress>
+        ensures { result ≡ (if nat_lt self.now.phases (limits_of self.now.form.version).phases then Some (record self.now { stage = stage.InPhase; phases = self.now.phases + 1 }) else None) }
+    {
+        if self.phases >= self.limits().phases {
             return None;
         }
         Some(Progress {
@@ -217,10 +273,10 @@ impl Progress {
         })
     }
 
-    fn with_send(&self) -> Option<Progress>
-        ensures { result ≡ (if nat_lt self.now.sends self.now.limits.sends then Some (record self.now { sends = self.now.sends + 1 }) else None) }
+    fn with_send(&self, values: &[FieldValue]) -> Option<Progress>
+        ensures { result ≡ (if nat_lt self.now.sends (limits_of self.now.form.version).sends && names_queues self.now.form.queues (map value_view values.now) then Some (record self.now { sends = self.now.sends + 1 }) else None) }
     {
-        if self.sends >= self.limits.sends {
+        if self.sends >= self.limits().sends || !self.has_queues(values) {
             return None;
         }
         Some(Progress {
@@ -229,10 +285,20 @@ impl Progress {
         })
     }
 
-    fn with_show(&self, are_there: bool) -> Option<Progress>
-        ensures { result ≡ (if nat_lt self.now.shows self.now.limits.shows && are_there then Some (record self.now { stage = stage.AfterShow; shows = self.now.shows + 1 }) else None) }
+    fn with_take(&self, values: &[FieldValue]) -> Option<Progress>
+        ensures { result ≡ (if names_queues self.now.form.queues (map value_view values.now) then Some self.now else None) }
     {
-        if self.shows >= self.limits.shows || !are_there {
+        if self.has_queues(values) {
+            Some(*self)
+        } else {
+            None
+        }
+    }
+
+    fn with_show(&self, are_there: bool) -> Option<Progress>
+        ensures { result ≡ (if nat_lt self.now.shows (limits_of self.now.form.version).shows && are_there then Some (record self.now { stage = stage.AfterShow; shows = self.now.shows + 1 }) else None) }
+    {
+        if self.shows >= self.limits().shows || !are_there {
             return None;
         }
         Some(Progress {

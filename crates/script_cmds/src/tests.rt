@@ -4,13 +4,20 @@ use cp_base::{
     Access, ByteRange, Bytes, Command, Config, CopySource, MemRange, RangeList, Sequence,
     SourceList, SpaceId,
 };
-use script_line::TextCause;
+use script_line::{TextCause, Version};
 use std::alloc::Global;
 use std::sync::Arc;
 use std::test::Fail;
 
 // The texts of the header and of what stands before most lines.
 const FRONT: &str = "nvmecp 1 block=512 depth=16 budget=1000\nmem 1 bytes=64\nphase\nhost 1\n";
+
+// The first lines of a script with two queues for a host.
+const QUEUES: &str = "nvmecp 2 block=512 queues=2 depth=16 budget=1\nphase\nhost 1\n";
+
+// The first four lines of a script with as many outstanding commands as a host may have.
+const DEEP: &str =
+    "nvmecp 2 block=512 queues=4 depth=1024 budget=1\nmem 1 bytes=64\nphase\nhost 1\n";
 
 const HEADER: &str = "nvmecp 1 block=512 depth=1 budget=1\n";
 
@@ -120,6 +127,38 @@ fn faults(rt: HostRuntime) -> Result<(), Fail> {
         (FRONT, "phase\nhost 0\n", 6, TextCause::Limit),
         (FRONT, "host 17\n", 5, TextCause::Limit),
         (FRONT, "mem 2 bytes=1\n", 5, TextCause::Order),
+        (
+            "",
+            "nvmecp 2 block=512 queues=5 depth=820 budget=1\n",
+            1,
+            TextCause::Limit,
+        ),
+        (QUEUES, "send 3:7 setdelete set=1\n", 4, TextCause::Limit),
+        (QUEUES, "send 7 setdelete set=1\n", 4, TextCause::Field),
+        (QUEUES, "send 1:7 abort cid=3:1\n", 4, TextCause::Limit),
+        (QUEUES, "send 1:7 abort cid=0:1\n", 4, TextCause::Limit),
+        (QUEUES, "send 1:7 abort cid=1:65536\n", 4, TextCause::Limit),
+        (QUEUES, "send 1:7 abort cid=1\n", 4, TextCause::Field),
+        (QUEUES, "send 1:7 abort cid=1:2:3\n", 4, TextCause::Field),
+        (QUEUES, "send 1:7 abort cid=:1\n", 4, TextCause::Number),
+        (QUEUES, "take 3:1\n", 4, TextCause::Limit),
+        (QUEUES, "take 0:7\n", 4, TextCause::Limit),
+        (QUEUES, "take 1:65536\n", 4, TextCause::Limit),
+        (QUEUES, "take 1:7:\n", 4, TextCause::Field),
+        (QUEUES, "take :7\n", 4, TextCause::Number),
+        (QUEUES, "take 01:7\n", 4, TextCause::Number),
+        (
+            QUEUES,
+            "nvmecp 1 block=512 depth=1 budget=1\n",
+            4,
+            TextCause::Order,
+        ),
+        (
+            HEADER,
+            "nvmecp 2 block=512 queues=1 depth=1 budget=1\n",
+            2,
+            TextCause::Order,
+        ),
         (HEADER, "nvm 1 blocks=32769\n", 2, TextCause::Limit),
         (HEADER, "nvm 1 blocks=0\n", 2, TextCause::Limit),
         (HEADER, "nvm 9 blocks=1\n", 2, TextCause::Limit),
@@ -182,6 +221,7 @@ fn scripts(rt: HostRuntime) -> Result<(), Fail> {
         "nvmecp 1 block=4096 depth=256 budget=10000000\n",
         "nvmecp 1 block=512 depth=1 budget=1\nnvm 1 blocks=32768\nnvm 3 blocks=1\nmem 2 bytes=1\nshow nvm 3 at=511 len=1\n",
         "nvmecp 1 block=512 depth=1 budget=1\nmem 8 bytes=16777216\nphase\nphase\nhost 16\ntake 65535\nshow mem 8 at=16769024 len=8192\n",
+        "nvmecp 2 block=512 queues=16 depth=256 budget=100000000\nmem 1 bytes=16\nphase\nhost 1\nsend 1:7 memread ns=1 at=0 len=1\nsend 16:65535 abort cid=1:7\ntake 16:65535\n",
         "nvmecp 1 block=512 depth=1 budget=1\nphase\nhost 1\nsend 0 memread ns=4294967295 at=18446744073709551615 len=0\nsend 1 memwrite ns=0 at=0 data=\n",
     ];
     for text in table {
@@ -290,6 +330,10 @@ fn full_script(alloc: Global) -> Result<Script, Fail> {
     let phases = Sequence::new(phases);
     let shows = Sequence::new(shows);
     Ok(Script {
+        form: Form {
+            version: Version::One,
+            queues: 1,
+        },
         config,
         phases,
         shows,
@@ -320,13 +364,16 @@ fn each_line_is_printed(rt: HostRuntime) -> Result<(), Fail> {
 
 #[test]
 fn counts(rt: HostRuntime) -> Result<(), Fail> {
-    let table: [(&str, u32); 3] = [
-        ("send 1 memread ns=1 at=0 len=1\n", 16_384),
-        ("phase\n", 1_023),
-        ("show mem 1 at=0 len=1\n", 1_024),
+    let table: [(&str, &str, u32); 6] = [
+        (FRONT, "send 1 memread ns=1 at=0 len=1\n", 16_384),
+        (FRONT, "phase\n", 1_023),
+        (FRONT, "show mem 1 at=0 len=1\n", 1_024),
+        (DEEP, "send 4:1 unload slot=0\n", 65_536),
+        (DEEP, "phase\n", 4_095),
+        (DEEP, "show mem 1 at=0 len=1\n", 4_096),
     ];
-    for (line, most) in table {
-        let mut text = Vec::from_slice(rt.alloc(), FRONT.as_bytes())?;
+    for (front, line, most) in table {
+        let mut text = Vec::from_slice(rt.alloc(), front.as_bytes())?;
         for _ in 0..most {
             text.extend_from_slice(line.as_bytes())?;
         }

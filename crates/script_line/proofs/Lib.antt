@@ -4,6 +4,7 @@ pub mod Names
 pub mod Outcomes
 pub mod Printed
 pub mod ReadAgain
+pub mod Queues
 pub mod Said
 pub mod Sends
 pub mod Shapes

@@ -5,7 +5,7 @@ use Rattle.std.proofs.lemmas.List.{append-nil}
 use Rattle.std.proofs.lemmas.List.Elements.{All-nil, All-cons}
 use Rattle.cp_text.specs.Parts.{joined_by}
 use Rattle.script_line.specs.declared.kind.LineKind.{LineKind}
-use Rattle.script_line.specs.Field.{Field, IsShaped, Word, Number, Hex, Sources, Ranges, Value, Count, Data, Copied, Covered, field_texts, value_text}
+use Rattle.script_line.specs.Field.{Field, IsShaped, Word, Number, Identifier, Hex, Sources, Ranges, Value, Count, Queued, Data, Copied, Covered, field_texts, value_text}
 use Rattle.script_line.specs.Line.{fields_of}
 use Rattle.script_line.specs.Printing.{PrintsLine}
 use Rattle.script_line.specs.Sized.{IsSized}
@@ -51,6 +51,7 @@ takes_word _ more values w s = absurd cc
 takes_value : (f : Field) (more : List Field) (v : Value) (vs : List Value) → is_word f ≡ false → IsShaped (f ∷ more) (v ∷ vs) → (IsShaped more vs) × (field_texts (f ∷ more) (v ∷ vs) ≡ (front_of f ++ value_text v) ∷ field_texts more vs)
 takes_value (Word text) more v vs w s = absurd cc
 takes_value (Number name least most) more (Count n) vs w s = (s, refl)
+takes_value (Identifier name) more (Queued queue cid) vs w s = (s, refl)
 takes_value (Hex name) more (Data bytes) vs w s = (s, refl)
 takes_value (Sources name) more (Copied sources) vs w s = (s, refl)
 takes_value (Ranges name) more (Covered ranges) vs w s = (s, refl)

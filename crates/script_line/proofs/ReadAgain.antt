@@ -1,6 +1,6 @@
 -- What is printed is read again.
 use Rattle.std.proofs.Common.{◌≡◌, ℕ, suc, ◌<◌, Bool, true, false, ◌&&◌, cond, eqb, List, [], ◌∷◌, ◌++◌, length, map, Option, Some, Result, Ok, Err, refl, sym, ap, subst, ◌∙◌, arith, inl, inr}
-use Rattle.std.specs.Prelude.{All, decimal, ◌^◌, find, option_map}
+use Rattle.std.specs.Prelude.{All, codes, decimal, ◌^◌, find, option_map}
 use Rattle.std.specs.List.{list_all}
 use Rattle.std.specs.Str.{bytes_eq}
 use Rattle.std.proofs.lemmas.Bool.{eq-eqb}
@@ -23,9 +23,12 @@ use Rattle.script_line.specs.declared.fault.TextCause.TheVariants as cause
 use Rattle.script_line.specs.declared.kind.LineKind.{LineKind}
 use Rattle.script_line.specs.declared.kind.LineKind.TheVariants as line
 use Rattle.script_line.specs.declared.kind.SpaceKind.TheVariants as space_kind
-use Rattle.script_line.specs.Field.{Field, IsShaped, Word, Number, Hex, Sources, Ranges, Value, Count, Data, Copied, Covered, access_parts, triple_text, source_text, range_text, field_texts}
-use Rattle.script_line.specs.Line.{Line, fields_of, line_text}
-use Rattle.script_line.specs.Reading.{◌>>=◌, line_of, kind_of, both, after_name, or_cause, read_number, changed, read_three, read_triple, nvm_source, mem_source, mem_range, range_in, read_source, read_range, read_each, read_behind, read_field, read_fields}
+use Rattle.script_line.specs.Field.{Field, IsShaped, Word, Number, Identifier, Hex, Sources, Ranges, Value, Count, Queued, Data, Copied, Covered, access_parts, queued_text, triple_text, source_text, range_text, field_texts}
+use Rattle.script_line.specs.Line.{Line, command_fields, fields_of, line_text}
+use Rattle.script_line.specs.Reading.{◌>>=◌, line_of, kind_of, both, after_name, or_cause, read_number, read_queued, queued_in, changed, read_three, read_triple, nvm_source, mem_source, mem_range, range_in, read_source, read_range, read_each, read_behind, read_field, read_fields}
+use Rattle.script_line.specs.Versions.{IsOfVersion}
+use Rattle.script_line.specs.declared.version.Version.{Version}
+use Rattle.script_line.specs.declared.version.Version.TheVariants as version
 use Rattle.script_line.specs.Sized.{IsLine, IsSized, IsSizedRange, IsSizedSource}
 use Rattle.script_line.specs.private.Pushed.{front_of}
 use Rattle.script_line.proofs.Spelled.{ok_is}
@@ -52,6 +55,16 @@ triple_lacks mark a b c apart n p q r = joined_lacks mark 58 (decimal a ∷ deci
 
 triple_again : (a b c : ℕ) → a < 2 ^ 64 → b < 2 ^ 64 → c < 2 ^ 64 → read_triple (parts_between 58 (triple_text a b c)) ≡ Ok (record { ns = a; start = b; len = c })
 triple_again a b c p q r = ap read_triple (parts_again 58 (decimal a) (decimal b ∷ decimal c ∷ []) (numbers_lack 58 a b c [] colon p q r refl)) ∙ three_again a b c p q r
+
+-- a queue and an identifier in it have no mark
+pair_lacks : (mark a b : ℕ) → IsNoDigit mark → a < 2 ^ 64 → b < 2 ^ 64 → all_lack mark (decimal a ∷ decimal b ∷ []) ≡ true
+pair_lacks mark a b apart p q = all_lack_cons mark (decimal a) (decimal b ∷ []) (decimal_lacks mark a apart p) (all_lack_cons mark (decimal b) [] (decimal_lacks mark b apart q) refl)
+
+queued_lacks : (mark a b : ℕ) → IsNoDigit mark → eqb 58 mark ≡ false → a < 2 ^ 64 → b < 2 ^ 64 → lacks mark (queued_text a b) ≡ true
+queued_lacks mark a b apart n p q = joined_lacks mark 58 (decimal a ∷ decimal b ∷ []) n (pair_lacks mark a b apart p q)
+
+queued_again : (a b : ℕ) → a < 2 ^ 64 → b < 2 ^ 64 → read_queued (queued_text a b) ≡ Ok (Queued a b)
+queued_again a b p q = ap queued_in (parts_again 58 (decimal a) (decimal b ∷ []) (pair_lacks 58 a b colon p q)) ∙ rw (number_again a p, number_again b q) refl
 
 -- a byte that stands in no number, data, source or range
 record Apart (mark : ℕ) : Type 0 where
@@ -143,6 +156,10 @@ fields_again (Word text ∷ fields) values s all =
 fields_again (Number name least most ∷ fields) (Count n ∷ values) s all =
     both_again (read_field (Number name least most) (name ++ decimal n)) (read_fields fields (field_texts fields values)) (Count n ∷ []) values
     (value_again (λ (m : ℕ). Count m ∷ []) read_number name (decimal n) n (number_again n (first_of IsSized (Count n) values all))) (fields_again fields values s (rest_of IsSized (Count n) values all))
+fields_again (Identifier name ∷ fields) (Queued queue cid ∷ values) s all =
+    let h = first_of IsSized (Queued queue cid) values all in
+    both_again (read_field (Identifier name) (name ++ queued_text queue cid)) (read_fields fields (field_texts fields values)) (Queued queue cid ∷ []) values
+    (value_again (λ (v : Value). v ∷ []) read_queued name (queued_text queue cid) (Queued queue cid) (queued_again queue cid h.0 h.1)) (fields_again fields values s (rest_of IsSized (Queued queue cid) values all))
 fields_again (Hex name ∷ fields) (Data bytes ∷ values) s all =
     both_again (read_field (Hex name) (name ++ hex_text bytes)) (read_fields fields (field_texts fields values)) (Data bytes ∷ []) values
     (value_again (λ (b : List ℕ). Data b ∷ []) (λ t. or_cause cause.Hex (hex_of t)) name (hex_text bytes) bytes (ap (or_cause cause.Hex) (hex_of-text bytes (first_of IsSized (Data bytes) values all)))) (fields_again fields values s (rest_of IsSized (Data bytes) values all))
@@ -204,20 +221,23 @@ of_each_word test all w = found_passes (λ v. bytes_eq (word_text w) (word_text 
 abbrev fronts_lack : ℕ → List Field → Bool
 fronts_lack mark fields = list_all (λ f. lacks mark (front_of f)) fields
 
-send_fronts : (mark : ℕ) → list_all (λ w. fronts_lack mark (fields_of (line.Send w))) all_words ≡ true → (w : CommandWord) → fronts_lack mark (fields_of (line.Send w)) ≡ true
-send_fronts mark all w = of_each_word (λ v. fronts_lack mark (fields_of (line.Send v))) all w
+send_fronts : (v : Version) (mark : ℕ) → list_all (λ w. fronts_lack mark (fields_of (line.Send v w))) all_words ≡ true → (w : CommandWord) → fronts_lack mark (fields_of (line.Send v w)) ≡ true
+send_fronts v mark all w = of_each_word (λ x. fronts_lack mark (fields_of (line.Send v x))) all w
 
 -- no word and no name of the table has a space or a newline
 plain_fronts : (kind : LineKind) → (fronts_lack 32 (fields_of kind) ≡ true) × (fronts_lack 10 (fields_of kind) ≡ true)
-plain_fronts line.Header = (refl, refl)
+plain_fronts (line.Header version.One) = (refl, refl)
+plain_fronts (line.Header version.Two) = (refl, refl)
 plain_fronts (line.Namespace space_kind.Nvm) = (refl, refl)
 plain_fronts (line.Namespace space_kind.Mem) = (refl, refl)
 plain_fronts line.Phase = (refl, refl)
 plain_fronts line.Host = (refl, refl)
-plain_fronts line.Take = (refl, refl)
+plain_fronts (line.Take version.One) = (refl, refl)
+plain_fronts (line.Take version.Two) = (refl, refl)
 plain_fronts (line.Show space_kind.Nvm) = (refl, refl)
 plain_fronts (line.Show space_kind.Mem) = (refl, refl)
-plain_fronts (line.Send w) = (send_fronts 32 refl w, send_fronts 10 refl w)
+plain_fronts (line.Send version.One w) = (send_fronts version.One 32 refl w, send_fronts version.One 10 refl w)
+plain_fronts (line.Send version.Two w) = (send_fronts version.Two 32 refl w, send_fronts version.Two 10 refl w)
 
 texts_lack : (mark : ℕ) (fields : List Field) (values : List Value) → Apart mark → eqb 44 mark ≡ false → fronts_lack mark fields ≡ true → IsShaped fields values → All IsSized values → all_lack mark (field_texts fields values) ≡ true
 texts_lack mark [] [] a n f s all = refl
@@ -227,6 +247,10 @@ texts_lack mark (Word text ∷ fields) values a n f s all =
 texts_lack mark (Number name least most ∷ fields) (Count m ∷ values) a n f s all =
     let p = two_true (lacks mark name) (fronts_lack mark fields) f in
     all_lack_cons mark (name ++ decimal m) (field_texts fields values) (lacks_both mark name (decimal m) p.0 (decimal_lacks mark m a.digit (first_of IsSized (Count m) values all))) (texts_lack mark fields values a n p.1 s (rest_of IsSized (Count m) values all))
+texts_lack mark (Identifier name ∷ fields) (Queued queue cid ∷ values) a n f s all =
+    let p = two_true (lacks mark name) (fronts_lack mark fields) f in
+    let h = first_of IsSized (Queued queue cid) values all in
+    all_lack_cons mark (name ++ queued_text queue cid) (field_texts fields values) (lacks_both mark name (queued_text queue cid) p.0 (queued_lacks mark queue cid a.digit a.colon h.0 h.1)) (texts_lack mark fields values a n p.1 s (rest_of IsSized (Queued queue cid) values all))
 texts_lack mark (Hex name ∷ fields) (Data bytes ∷ values) a n f s all =
     let p = two_true (lacks mark name) (fronts_lack mark fields) f in
     all_lack_cons mark (name ++ hex_text bytes) (field_texts fields values) (lacks_both mark name (hex_text bytes) p.0 (hex_lacks mark bytes a.digit (first_of IsSized (Data bytes) values all))) (texts_lack mark fields values a n p.1 s (rest_of IsSized (Data bytes) values all))
@@ -244,25 +268,36 @@ texts_lack mark (Ranges name ∷ fields) (Covered xs ∷ values) a n f s all =
     (texts_lack mark fields values a n p.1 s (rest_of IsSized (Covered xs) values all))
 texts_lack mark _ _ a n f s all = absurd s
 
-kind_again : (kind : LineKind) (values : List Value) → IsShaped (fields_of kind) values → kind_of (field_texts (fields_of kind) values) ≡ Ok kind
-kind_again (line.Send w) (Count cid ∷ values) s = ap (λ o. or_cause cause.Word (option_map (λ v. line.Send v) o)) (word_again w)
-kind_again (line.Send w) _ s = absurd s
-kind_again line.Header values s = refl
-kind_again (line.Namespace space_kind.Nvm) values s = refl
-kind_again (line.Namespace space_kind.Mem) values s = refl
-kind_again line.Phase values s = refl
-kind_again line.Host values s = refl
-kind_again line.Take values s = refl
-kind_again (line.Show space_kind.Nvm) values s = refl
-kind_again (line.Show space_kind.Mem) values s = refl
+-- the word of a send line stands third, whatever its identifier is
+sent_again : (v : Version) (w : CommandWord) (id : List ℕ) (more : List (List ℕ)) → kind_of v (codes "send" ∷ id ∷ word_text w ∷ more) ≡ Ok (line.Send v w)
+sent_again v w id more = ap (λ o. or_cause cause.Word (option_map (λ x. line.Send v x) o)) (word_again w)
+
+send_again : (v : Version) (w : CommandWord) (values : List Value) → IsShaped (fields_of (line.Send v w)) values → kind_of v (field_texts (fields_of (line.Send v w)) values) ≡ Ok (line.Send v w)
+send_again version.One w (Count cid ∷ values) s = sent_again version.One w (decimal cid) (field_texts (command_fields version.One w) values)
+send_again version.Two w (Queued queue cid ∷ values) s = sent_again version.Two w (queued_text queue cid) (field_texts (command_fields version.Two w) values)
+send_again v w _ s = absurd s
+
+kind_again : (v : Version) (kind : LineKind) (values : List Value) → IsOfVersion v kind → IsShaped (fields_of kind) values → kind_of v (field_texts (fields_of kind) values) ≡ Ok kind
+kind_again v (line.Send own w) values is s =
+    ap (λ (x : Version). kind_of x (field_texts (fields_of (line.Send own w)) values)) (sym is) ∙ send_again own w values s
+kind_again v (line.Header version.One) values is s = refl
+kind_again v (line.Header version.Two) values is s = refl
+kind_again v (line.Namespace space_kind.Nvm) values is s = refl
+kind_again v (line.Namespace space_kind.Mem) values is s = refl
+kind_again v line.Phase values is s = refl
+kind_again v line.Host values is s = refl
+kind_again v (line.Take own) values is s = ap (λ (x : Version). Ok (line.Take x)) (sym is)
+kind_again v (line.Show space_kind.Nvm) values is s = refl
+kind_again v (line.Show space_kind.Mem) values is s = refl
 
 some_fields : (kind : LineKind) (values : List Value) → 0 < length (field_texts (fields_of kind) values)
-some_fields (line.Send w) values = omega arith
-some_fields line.Header values = omega arith
+some_fields (line.Send v w) values = omega arith
+some_fields (line.Header version.One) values = omega arith
+some_fields (line.Header version.Two) values = omega arith
 some_fields (line.Namespace kind) values = omega arith
 some_fields line.Phase values = omega arith
 some_fields line.Host values = omega arith
-some_fields line.Take values = omega arith
+some_fields (line.Take v) values = omega arith
 some_fields (line.Show kind) values = omega arith
 
 space : Apart 32
@@ -278,21 +313,13 @@ line_parts l h =
 pub line_lacks : (l : Line) → IsLine l → lacks 10 (line_text l) ≡ true
 line_lacks l h = joined_lacks 10 32 (field_texts (fields_of l.kind) l.values) refl (texts_lack 10 (fields_of l.kind) l.values newline refl (plain_fronts l.kind).1 h.shape h.sized)
 
-pub line_again : (l : Line) → IsLine l → line_of (line_text l) ≡ Ok l
-line_again l h =
+pub line_again : (v : Version) (l : Line) → IsLine l → IsOfVersion v l.kind → line_of v (line_text l) ≡ Ok l
+line_again v l h is =
     let texts = field_texts (fields_of l.kind) l.values in
     let read : List (List ℕ) → LineKind → Result Line TextCause = λ ps kind. read_fields (fields_of kind) ps >>= λ values. Ok (record { kind = kind; values = values }) in
-    ap (λ ps. kind_of ps >>= read ps) (line_parts l h) ∙ ap (λ r. r >>= read texts) (kind_again l.kind l.values h.shape)
+    ap (λ ps. kind_of v ps >>= read ps) (line_parts l h) ∙ ap (λ r. r >>= read texts) (kind_again v l.kind l.values is h.shape)
     ∙ ap (λ r. r >>= λ values. Ok (record { kind = l.kind; values = values })) (fields_again (fields_of l.kind) l.values h.shape h.sized)
 
 -- lines of one text are one line
-pub one_line : (a b : Line) → IsLine a → IsLine b → line_text a ≡ line_text b → a ≡ b
-one_line a b p q e =
-    let parts : field_texts (fields_of a.kind) a.values ≡ field_texts (fields_of b.kind) b.values = sym (line_parts a p) ∙ ap (parts_between 32) e ∙ line_parts b q in
-    let kinds : a.kind ≡ b.kind = ok_is a.kind b.kind (sym (kind_again a.kind a.values p.shape) ∙ ap kind_of parts ∙ kind_again b.kind b.values q.shape) in
-    let values : a.values ≡ b.values =
-    ok_is a.values b.values (sym (fields_again (fields_of a.kind) a.values p.shape p.sized) ∙ ap (read_fields (fields_of a.kind)) parts
-    ∙ ap (λ (k : LineKind). read_fields (fields_of k) (field_texts (fields_of b.kind) b.values)) kinds ∙ fields_again (fields_of b.kind) b.values q.shape q.sized) in
-    let by_kind : LineKind → Line = λ k. record { kind = k; values = a.values } in
-    let by_values : List Value → Line = λ vs. record { kind = b.kind; values = vs } in
-    ap by_kind kinds ∙ ap by_values values
+pub one_line : (v : Version) (a b : Line) → IsLine a → IsLine b → IsOfVersion v a.kind → IsOfVersion v b.kind → line_text a ≡ line_text b → a ≡ b
+one_line v a b p q va vb e = ok_is a b (sym (line_again v a p va) ∙ ap (line_of v) e ∙ line_again v b q vb)

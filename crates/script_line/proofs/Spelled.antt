@@ -18,8 +18,8 @@ use Rattle.script_line.specs.declared.fault.TextCause.TheVariants as cause
 use Rattle.cp_text.specs.Parts.{joined_by, parts_between}
 use Rattle.cp_text.proofs.Joined.{joined_again}
 use Rattle.script_line.specs.declared.field.Triple.{Triple}
-use Rattle.script_line.specs.Field.{Field, IsShaped, Word, Number, Hex, Sources, Ranges, Value, Count, Data, Copied, Covered, access_parts, triple_text, source_text, range_text, field_texts}
-use Rattle.script_line.specs.Reading.{both, after_name, or_cause, read_number, changed, read_three, read_triple, nvm_source, mem_source, mem_range, range_in, read_source, read_range, read_each, read_behind, read_field, read_fields}
+use Rattle.script_line.specs.Field.{Field, IsShaped, Word, Number, Identifier, Hex, Sources, Ranges, Value, Count, Queued, Data, Copied, Covered, access_parts, queued_text, triple_text, source_text, range_text, field_texts}
+use Rattle.script_line.specs.Reading.{both, after_name, or_cause, queued_in, read_number, read_queued, changed, read_three, read_triple, nvm_source, mem_source, mem_range, range_in, read_source, read_range, read_each, read_behind, read_field, read_fields}
 use Rattle.script_line.specs.Sized.{IsSized, IsSizedRange, IsSizedSource}
 
 pub ok_is : {A : Type 0} (x y : A) → ◌≡◌ {A = Result A TextCause} (Ok x) (Ok y) → x ≡ y
@@ -57,6 +57,24 @@ after_name-some (c ∷ cs) (d ∷ ds) rest e =
 
 number_spelled : (text : List ℕ) (n : ℕ) → read_number text ≡ Ok n → (decimal n ≡ text) × (n < 2 ^ 64)
 number_spelled text n e = let p = number_of-spelled text n (or_cause_ok cause.Number (number_of text) n e) in (sym p.0, p.1)
+
+-- a queue and an identifier in it
+record QueuedSays (value : Value) (parts : List (List ℕ)) : Type 0 where
+  queue : ℕ
+  cid : ℕ
+  is : value ≡ Queued queue cid
+  texts : decimal queue ∷ decimal cid ∷ [] ≡ parts
+  sized : (queue < 2 ^ 64) × (cid < 2 ^ 64)
+
+queued_parts : (parts : List (List ℕ)) (v : Value) → queued_in parts ≡ Ok v → QueuedSays v parts
+queued_parts [] v e = absurd cc
+queued_parts (a ∷ []) v e = absurd cc
+queued_parts (a ∷ b ∷ c ∷ more) v e = absurd cc
+queued_parts (a ∷ b ∷ []) v e =
+    let p = both_ok (λ (queue cid : ℕ). Queued queue cid) (read_number a) (read_number b) v e in
+    let n = number_spelled a p.0 p.2 in
+    let m = number_spelled b p.1 p.3 in
+    record { queue = p.0; cid = p.1; is = sym p.4; texts = rw (n.0, m.0) refl; sized = (n.1, m.1) }
 
 -- the numbers of a triple have 64 bits
 abbrev IsSmall : Triple → Type 0
@@ -177,6 +195,18 @@ fields_spelled (Number name least most ∷ fs) (t ∷ ts) vs e =
     let sized : All IsSized (Count q.0 ∷ p.1) = All-cons IsSized (Count q.0) p.1 spelled.1 rest.sized in
     let text : name ++ decimal q.0 ≡ t = ap (λ (x : List ℕ). name ++ x) spelled.0 ∙ after_name-some name t r.0 r.1 in
     subst (λ (ws : List Value). Spells (Number name least most ∷ fs) ws (t ∷ ts)) made (record { texts = ap (λ (x : List ℕ). x ∷ field_texts fs p.1) text ∙ ap (λ (xs : List (List ℕ)). t ∷ xs) rest.texts; shape = rest.shape; sized = sized })
+fields_spelled (Identifier name ∷ fs) (t ∷ ts) vs e =
+    let p = both_ok (λ (a b : List Value). a ++ b) (read_field (Identifier name) t) (read_fields fs ts) vs e in
+    let q = changed_ok (λ (v : Value). v ∷ []) (read_behind read_queued (after_name name t)) p.0 p.2 in
+    let r = behind_ok read_queued (after_name name t) q.0 q.1 in
+    let rest = fields_spelled fs ts p.1 p.3 in
+    let s = queued_parts (parts_between 58 r.0) q.0 r.2 in
+    let said = Queued s.queue s.cid in
+    let made : said ∷ p.1 ≡ vs = ap (λ (v : Value). v ∷ p.1) (sym s.is) ∙ ap (λ (a : List Value). a ++ p.1) q.2 ∙ p.4 in
+    let spelled : queued_text s.queue s.cid ≡ r.0 = ap (joined_by 58) s.texts ∙ joined_again 58 r.0 in
+    let sized : All IsSized (said ∷ p.1) = All-cons IsSized said p.1 s.sized rest.sized in
+    let text : name ++ queued_text s.queue s.cid ≡ t = ap (λ (x : List ℕ). name ++ x) spelled ∙ after_name-some name t r.0 r.1 in
+    subst (λ (ws : List Value). Spells (Identifier name ∷ fs) ws (t ∷ ts)) made (record { texts = ap (λ (x : List ℕ). x ∷ field_texts fs p.1) text ∙ ap (λ (xs : List (List ℕ)). t ∷ xs) rest.texts; shape = rest.shape; sized = sized })
 fields_spelled (Hex name ∷ fs) (t ∷ ts) vs e =
     let read : List ℕ → Result (List ℕ) TextCause = λ x. or_cause cause.Hex (hex_of x) in
     let p = both_ok (λ (a b : List Value). a ++ b) (read_field (Hex name) t) (read_fields fs ts) vs e in

@@ -5,8 +5,8 @@ use Rattle.cp_base.specs.declared.limits.TheConstants.{MAX_ITEMS}
 use Rattle.cp_base.specs.declared.lists.CopySource.{CopySource}
 use Rattle.cp_base.specs.declared.lists.CopySource.TheVariants as source
 use Rattle.cp_base.specs.declared.lists.MemRange.{MemRange}
-use Rattle.script_line.specs.declared.limits.TheConstants.{MAX_32}
-use Rattle.script_line.specs.Field.{Field, Word, Number, Sources, Ranges, Value, Count, Copied, Covered}
+use Rattle.script_line.specs.declared.limits.TheConstants.{MAX_32, MAX_CID, VERSION_2}
+use Rattle.script_line.specs.Field.{Field, Word, Number, Identifier, Sources, Ranges, Value, Count, Queued, Copied, Covered}
 use Rattle.script_line.specs.Line.{Line, fields_of}
 
 -- whether a number lies from low to high
@@ -29,6 +29,7 @@ ranges_fit ranges = nat_le (length ranges) MAX_ITEMS && list_all (λ (range : Me
 -- whether what a field says keeps the field's limit
 abbrev pub value_fits : Field → Value → Bool
 value_fits (Number name least most) (Count n) = is_within least most n
+value_fits (Identifier name) (Queued queue cid) = is_within 1 VERSION_2.queues queue && nat_le cid MAX_CID
 value_fits (Sources name) (Copied sources) = sources_fit sources
 value_fits (Ranges name) (Covered ranges) = ranges_fit ranges
 value_fits _ _ = true

@@ -5,4 +5,5 @@ pub mod Printing
 pub mod Reading
 pub mod Sized
 pub mod Values
+pub mod Versions
 pub mod private

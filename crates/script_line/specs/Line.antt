@@ -1,5 +1,5 @@
 -- The lines of a script: the kinds of line and the one table of their fields. This project's own.
-use Rattle.std.specs.Prelude.{ℕ, List, [], ◌∷◌, ◌++◌, map, codes}
+use Rattle.std.specs.Prelude.{ℕ, ◌+◌, ◌/◌, ◌%◌, List, [], ◌∷◌, ◌++◌, map, codes}
 use Rattle.cp_text.specs.Parts.{joined_by}
 use Rattle.cp_base.specs.Words.{word_of, word_text}
 use Rattle.cp_base.specs.declared.commands.Command.{Command}
@@ -11,8 +11,10 @@ use Rattle.script_line.specs.declared.kind.LineKind.{LineKind}
 use Rattle.script_line.specs.declared.kind.LineKind.TheVariants.{Header, Namespace, Phase, Host, Send, Take, Show}
 use Rattle.script_line.specs.declared.kind.SpaceKind.{SpaceKind}
 use Rattle.script_line.specs.declared.kind.SpaceKind.TheVariants.{Nvm, Mem}
-use Rattle.script_line.specs.declared.limits.TheConstants.{MAX_CID, MAX_32, MAX_64, MAX_VALUE, VERSION_1}
-use Rattle.script_line.specs.Field.{Field, Word, Number, Hex, Sources, Ranges, Value, Count, Data, Copied, Covered, field_texts}
+use Rattle.script_line.specs.declared.limits.TheConstants.{MAX_CID, MAX_32, MAX_64, MAX_VALUE, VERSION_1, VERSION_2}
+use Rattle.script_line.specs.declared.version.Version.{Version}
+use Rattle.script_line.specs.declared.version.Version.TheVariants.{One, Two}
+use Rattle.script_line.specs.Field.{Field, Word, Number, Identifier, Hex, Sources, Ranges, Value, Count, Queued, Data, Copied, Covered, field_texts}
 
 -- a line: its kind and what its fields say
 pub record Line : Type 0 where
@@ -26,26 +28,31 @@ small name = Number name 0 MAX_32
 abbrev pub large : List ℕ → Field
 large name = Number name 0 MAX_64
 
+-- the identifier of a command behind a name: in version 1 a number, in version 2 that of a queue before it
+abbrev pub identifier_field : Version → List ℕ → Field
+identifier_field One name = Number name 0 MAX_CID
+identifier_field Two name = Identifier name
+
 -- the fields of a command, in their order
-abbrev pub command_fields : CommandWord → List Field
-command_fields word.NvmRead = small (codes "ns=") ∷ large (codes "lba=") ∷ large (codes "count=") ∷ []
-command_fields word.NvmWrite = small (codes "ns=") ∷ large (codes "lba=") ∷ Hex (codes "data=") ∷ []
-command_fields word.NvmZeroes = small (codes "ns=") ∷ large (codes "lba=") ∷ large (codes "count=") ∷ []
-command_fields word.NvmCopy = small (codes "ns=") ∷ large (codes "lba=") ∷ Sources (codes "from=") ∷ []
-command_fields word.MemRead = small (codes "ns=") ∷ large (codes "at=") ∷ large (codes "len=") ∷ []
-command_fields word.MemWrite = small (codes "ns=") ∷ large (codes "at=") ∷ Hex (codes "data=") ∷ []
-command_fields word.MemFill =
+abbrev pub command_fields : Version → CommandWord → List Field
+command_fields version word.NvmRead = small (codes "ns=") ∷ large (codes "lba=") ∷ large (codes "count=") ∷ []
+command_fields version word.NvmWrite = small (codes "ns=") ∷ large (codes "lba=") ∷ Hex (codes "data=") ∷ []
+command_fields version word.NvmZeroes = small (codes "ns=") ∷ large (codes "lba=") ∷ large (codes "count=") ∷ []
+command_fields version word.NvmCopy = small (codes "ns=") ∷ large (codes "lba=") ∷ Sources (codes "from=") ∷ []
+command_fields version word.MemRead = small (codes "ns=") ∷ large (codes "at=") ∷ large (codes "len=") ∷ []
+command_fields version word.MemWrite = small (codes "ns=") ∷ large (codes "at=") ∷ Hex (codes "data=") ∷ []
+command_fields version word.MemFill =
     small (codes "ns=") ∷ large (codes "at=") ∷ large (codes "len=") ∷ Number (codes "value=") 0 MAX_VALUE ∷ []
-command_fields word.MemCopy = small (codes "ns=") ∷ large (codes "at=") ∷ Sources (codes "from=") ∷ []
-command_fields word.SetCreate = Ranges (codes "ranges=") ∷ []
-command_fields word.SetDelete = small (codes "set=") ∷ []
-command_fields word.Load = small (codes "slot=") ∷ large (codes "size=") ∷ large (codes "at=") ∷ Hex (codes "data=") ∷ []
-command_fields word.Unload = small (codes "slot=") ∷ []
-command_fields word.Activate = small (codes "slot=") ∷ []
-command_fields word.Deactivate = small (codes "slot=") ∷ []
-command_fields word.Execute =
+command_fields version word.MemCopy = small (codes "ns=") ∷ large (codes "at=") ∷ Sources (codes "from=") ∷ []
+command_fields version word.SetCreate = Ranges (codes "ranges=") ∷ []
+command_fields version word.SetDelete = small (codes "set=") ∷ []
+command_fields version word.Load = small (codes "slot=") ∷ large (codes "size=") ∷ large (codes "at=") ∷ Hex (codes "data=") ∷ []
+command_fields version word.Unload = small (codes "slot=") ∷ []
+command_fields version word.Activate = small (codes "slot=") ∷ []
+command_fields version word.Deactivate = small (codes "slot=") ∷ []
+command_fields version word.Execute =
     small (codes "slot=") ∷ small (codes "set=") ∷ large (codes "p1=") ∷ large (codes "p2=") ∷ large (codes "budget=") ∷ []
-command_fields word.Abort = Number (codes "cid=") 0 MAX_CID ∷ []
+command_fields version word.Abort = identifier_field version (codes "cid=") ∷ []
 
 -- the word of a kind of namespace
 abbrev pub space_text : SpaceKind → List ℕ
@@ -61,20 +68,23 @@ size_name Mem = codes "bytes="
 abbrev pub space_number : Field
 space_number = Number [] 1 NAMESPACES
 
--- the identifier of a command
-abbrev pub cid_number : Field
-cid_number = Number [] 0 MAX_CID
+-- the fields of a header behind its first: the version, and in version 2 a number of queues among the limits
+abbrev pub header_fields : Version → List Field
+header_fields One =
+    Word (codes "1") ∷ large (codes "block=") ∷ Number (codes "depth=") 1 VERSION_1.depth
+    ∷ Number (codes "budget=") 1 VERSION_1.budget ∷ []
+header_fields Two =
+    Word (codes "2") ∷ large (codes "block=") ∷ Number (codes "queues=") 1 VERSION_2.queues
+    ∷ Number (codes "depth=") 1 VERSION_2.depth ∷ Number (codes "budget=") 1 VERSION_2.budget ∷ []
 
 -- all fields of a line, its words among them
 abbrev pub fields_of : LineKind → List Field
-fields_of Header =
-    Word (codes "nvmecp") ∷ Word (codes "1") ∷ large (codes "block=") ∷ Number (codes "depth=") 1 VERSION_1.depth
-    ∷ Number (codes "budget=") 1 VERSION_1.budget ∷ []
+fields_of (Header version) = Word (codes "nvmecp") ∷ header_fields version
 fields_of (Namespace kind) = Word (space_text kind) ∷ space_number ∷ Number (size_name kind) 1 MAX_NAMESPACE ∷ []
 fields_of Phase = Word (codes "phase") ∷ []
 fields_of Host = Word (codes "host") ∷ Number [] 1 MAX_HOSTS ∷ []
-fields_of (Send word) = Word (codes "send") ∷ cid_number ∷ Word (word_text word) ∷ command_fields word
-fields_of Take = Word (codes "take") ∷ cid_number ∷ []
+fields_of (Send version word) = Word (codes "send") ∷ identifier_field version [] ∷ Word (word_text word) ∷ command_fields version word
+fields_of (Take version) = Word (codes "take") ∷ identifier_field version [] ∷ []
 fields_of (Show kind) =
     Word (codes "show") ∷ Word (space_text kind) ∷ space_number ∷ large (codes "at=") ∷ Number (codes "len=") 1 MAX_TRANSFER ∷ []
 
@@ -86,25 +96,38 @@ line_text line = joined_by 32 (field_texts (fields_of line.kind) line.values)
 abbrev pub counts : List ℕ → List Value
 counts numbers = map (λ n. Count n) numbers
 
--- what the fields of a send line say
-abbrev pub send_values : ℕ → Command → List Value
-send_values cid (command.NvmRead ns lba count) = counts (cid ∷ ns ∷ lba ∷ count ∷ [])
-send_values cid (command.NvmWrite ns lba bytes) = counts (cid ∷ ns ∷ lba ∷ []) ++ Data bytes.items ∷ []
-send_values cid (command.NvmZeroes ns lba count) = counts (cid ∷ ns ∷ lba ∷ count ∷ [])
-send_values cid (command.NvmCopy ns lba from) = counts (cid ∷ ns ∷ lba ∷ []) ++ Copied from ∷ []
-send_values cid (command.MemRead ns at len) = counts (cid ∷ ns ∷ at ∷ len ∷ [])
-send_values cid (command.MemWrite ns at bytes) = counts (cid ∷ ns ∷ at ∷ []) ++ Data bytes.items ∷ []
-send_values cid (command.MemFill ns at len value) = counts (cid ∷ ns ∷ at ∷ len ∷ value ∷ [])
-send_values cid (command.MemCopy ns at from) = counts (cid ∷ ns ∷ at ∷ []) ++ Copied from ∷ []
-send_values cid (command.SetCreate ranges) = counts (cid ∷ []) ++ Covered ranges ∷ []
-send_values cid (command.SetDelete set) = counts (cid ∷ set ∷ [])
-send_values cid (command.Load slot size at bytes) = counts (cid ∷ slot ∷ size ∷ at ∷ []) ++ Data bytes.items ∷ []
-send_values cid (command.Unload slot) = counts (cid ∷ slot ∷ [])
-send_values cid (command.Activate slot) = counts (cid ∷ slot ∷ [])
-send_values cid (command.Deactivate slot) = counts (cid ∷ slot ∷ [])
-send_values cid (command.Execute slot set p1 p2 budget) = counts (cid ∷ slot ∷ set ∷ p1 ∷ p2 ∷ budget ∷ [])
-send_values cid (command.Abort other) = counts (cid ∷ other ∷ [])
+-- what the identifier of a command says, which the device counts over all queues
+abbrev pub identifier_value : Version → ℕ → Value
+identifier_value One id = Count id
+identifier_value Two id = Queued (id / 65536 + 1) (id % 65536)
 
--- the line of a command that is sent
-abbrev pub send_line : ℕ → Command → Line
-send_line cid command = record { kind = Send (word_of command); values = send_values cid command }
+-- what the fields of a send line say behind the identifier
+abbrev pub command_values : Version → Command → List Value
+command_values version (command.NvmRead ns lba count) = counts (ns ∷ lba ∷ count ∷ [])
+command_values version (command.NvmWrite ns lba bytes) = counts (ns ∷ lba ∷ []) ++ Data bytes.items ∷ []
+command_values version (command.NvmZeroes ns lba count) = counts (ns ∷ lba ∷ count ∷ [])
+command_values version (command.NvmCopy ns lba from) = counts (ns ∷ lba ∷ []) ++ Copied from ∷ []
+command_values version (command.MemRead ns at len) = counts (ns ∷ at ∷ len ∷ [])
+command_values version (command.MemWrite ns at bytes) = counts (ns ∷ at ∷ []) ++ Data bytes.items ∷ []
+command_values version (command.MemFill ns at len value) = counts (ns ∷ at ∷ len ∷ value ∷ [])
+command_values version (command.MemCopy ns at from) = counts (ns ∷ at ∷ []) ++ Copied from ∷ []
+command_values version (command.SetCreate ranges) = Covered ranges ∷ []
+command_values version (command.SetDelete set) = counts (set ∷ [])
+command_values version (command.Load slot size at bytes) = counts (slot ∷ size ∷ at ∷ []) ++ Data bytes.items ∷ []
+command_values version (command.Unload slot) = counts (slot ∷ [])
+command_values version (command.Activate slot) = counts (slot ∷ [])
+command_values version (command.Deactivate slot) = counts (slot ∷ [])
+command_values version (command.Execute slot set p1 p2 budget) = counts (slot ∷ set ∷ p1 ∷ p2 ∷ budget ∷ [])
+command_values version (command.Abort id) = identifier_value version id ∷ []
+
+-- what the fields of a send line say
+abbrev pub send_values : Version → ℕ → Command → List Value
+send_values version id command = identifier_value version id ∷ command_values version command
+
+-- the line of a command that is sent under an identifier of the device
+abbrev pub send_line : Version → ℕ → Command → Line
+send_line version id command = record { kind = Send version (word_of command); values = send_values version id command }
+
+-- the line of a reply that is taken
+abbrev pub take_line : Version → ℕ → Line
+take_line version id = record { kind = Take version; values = identifier_value version id ∷ [] }

@@ -16,7 +16,9 @@ use Rattle.script_line.specs.declared.fault.TextCause.TheVariants as cause
 use Rattle.script_line.specs.declared.kind.LineKind.{LineKind}
 use Rattle.script_line.specs.declared.kind.LineKind.TheVariants.{Header, Namespace, Phase, Host, Send, Take, Show}
 use Rattle.script_line.specs.declared.kind.SpaceKind.TheVariants.{Nvm, Mem}
-use Rattle.script_line.specs.Field.{Field, Word, Number, Hex, Sources, Ranges, Value, Count, Data, Copied, Covered}
+use Rattle.script_line.specs.declared.version.Version.{Version}
+use Rattle.script_line.specs.declared.version.Version.TheVariants.{One, Two}
+use Rattle.script_line.specs.Field.{Field, Word, Number, Identifier, Hex, Sources, Ranges, Value, Count, Queued, Data, Copied, Covered}
 use Rattle.script_line.specs.Line.{Line, fields_of}
 
 -- which of two causes comes first in the order Word, Field, Number, Hex, Order, Limit
@@ -64,6 +66,14 @@ abbrev pub changed : {A B : Type 0} → (A → B) → Result A TextCause → Res
 changed f (Ok x) = Ok (f x)
 changed f (Err e) = Err e
 
+-- a queue and an identifier in it
+abbrev pub queued_in : List (List ℕ) → Result Value TextCause
+queued_in (a ∷ b ∷ []) = both (λ (queue cid : ℕ). Queued queue cid) (read_number a) (read_number b)
+queued_in _ = Err cause.Field
+
+abbrev pub read_queued : List ℕ → Result Value TextCause
+read_queued text = queued_in (parts_between 58 text)
+
 -- three numbers
 abbrev pub read_three : List ℕ → List ℕ → List ℕ → Result Triple TextCause
 read_three a b c =
@@ -110,6 +120,7 @@ read_behind read (Some text) = read text
 abbrev pub read_field : Field → List ℕ → Result (List Value) TextCause
 read_field (Word word) text = if bytes_eq text word then Ok [] else Err cause.Field
 read_field (Number name least most) text = changed (λ n. Count n ∷ []) (read_behind read_number (after_name name text))
+read_field (Identifier name) text = changed (λ value. value ∷ []) (read_behind read_queued (after_name name text))
 read_field (Hex name) text = changed (λ bytes. Data bytes ∷ []) (read_behind (λ t. or_cause cause.Hex (hex_of t)) (after_name name text))
 read_field (Sources name) text = changed (λ sources. Copied sources ∷ []) (read_behind (λ t. read_each read_source (parts_between 44 t)) (after_name name text))
 read_field (Ranges name) text = changed (λ ranges. Covered ranges ∷ []) (read_behind (λ t. read_each read_range (parts_between 44 t)) (after_name name text))
@@ -121,11 +132,17 @@ read_fields [] (text ∷ texts) = Err cause.Field
 read_fields (field ∷ fields) [] = Err cause.Field
 read_fields (field ∷ fields) (text ∷ texts) = both (λ xs ys. xs ++ ys) (read_field field text) (read_fields fields texts)
 
+-- the kind of a header by the fields after its first: the version that it states; where it states none, the
+-- field that does so is looked at as in version 1
+abbrev pub header_kind : List (List ℕ) → LineKind
+header_kind [] = Header One
+header_kind (text ∷ more) = if bytes_eq text (codes "2") then Header Two else Header One
+
 -- the kind of a send line by the fields after its first: the third field of the line has to be a
 -- command's word
-abbrev pub send_kind : List (List ℕ) → Result LineKind TextCause
-send_kind (cid ∷ text ∷ more) = or_cause cause.Word (option_map (λ word. Send word) (command_word text))
-send_kind _ = Err cause.Field
+abbrev pub send_kind : Version → List (List ℕ) → Result LineKind TextCause
+send_kind version (id ∷ text ∷ more) = or_cause cause.Word (option_map (λ word. Send version word) (command_word text))
+send_kind version _ = Err cause.Field
 
 -- the kind of a show line by the fields after its first
 abbrev pub show_kind : List (List ℕ) → Result LineKind TextCause
@@ -133,24 +150,25 @@ show_kind [] = Err cause.Field
 show_kind (text ∷ more) =
     if bytes_eq text (codes "nvm") then Ok (Show Nvm) else if bytes_eq text (codes "mem") then Ok (Show Mem) else Err cause.Word
 
--- the kind of a line by its fields, or that one of its words is none
-abbrev pub kind_of : List (List ℕ) → Result LineKind TextCause
-kind_of [] = Err cause.Word
-kind_of (text ∷ more) =
-    if bytes_eq text (codes "nvmecp") then Ok Header
+-- the kind of a line of a script of a version by its fields, or that one of its words is none
+abbrev pub kind_of : Version → List (List ℕ) → Result LineKind TextCause
+kind_of version [] = Err cause.Word
+kind_of version (text ∷ more) =
+    if bytes_eq text (codes "nvmecp") then Ok (header_kind more)
     else if bytes_eq text (codes "nvm") then Ok (Namespace Nvm)
     else if bytes_eq text (codes "mem") then Ok (Namespace Mem)
     else if bytes_eq text (codes "phase") then Ok Phase
     else if bytes_eq text (codes "host") then Ok Host
-    else if bytes_eq text (codes "send") then send_kind more
-    else if bytes_eq text (codes "take") then Ok Take
+    else if bytes_eq text (codes "send") then send_kind version more
+    else if bytes_eq text (codes "take") then Ok (Take version)
     else if bytes_eq text (codes "show") then show_kind more
     else Err cause.Word
 
--- what a line says by its text, without its newline: its kind by its words, then its fields
-abbrev pub line_of : List ℕ → Result Line TextCause
-line_of text = do
+-- what a line says by its text, without its newline: its kind by its words, then its fields. Where it sends
+-- or takes a command, its identifier is of this version; a header is of the version that it states.
+abbrev pub line_of : Version → List ℕ → Result Line TextCause
+line_of version text = do
   let fields : List (List ℕ) = parts_between 32 text
-  kind ← kind_of fields
+  kind ← kind_of version fields
   values ← read_fields (fields_of kind) fields
   Ok (record { kind = kind; values = values })

@@ -4,7 +4,7 @@ use Rattle.cp_base.specs.declared.lists.CopySource.{CopySource}
 use Rattle.cp_base.specs.declared.lists.CopySource.TheVariants as source
 use Rattle.cp_base.specs.declared.lists.MemRange.{MemRange}
 use Rattle.cp_text.specs.HexText.{AreBytes}
-use Rattle.script_line.specs.Field.{IsShaped, Value, Count, Data, Copied, Covered}
+use Rattle.script_line.specs.Field.{IsShaped, Value, Count, Queued, Data, Copied, Covered}
 use Rattle.script_line.specs.Line.{Line, fields_of}
 
 -- the numbers of a source have 64 bits
@@ -16,9 +16,10 @@ IsSizedSource (source.Mem ns at len) = (ns < 2 ^ 64) × (at < 2 ^ 64) × (len < 
 abbrev pub IsSizedRange : MemRange → Type 0
 IsSizedRange range = (range.ns < 2 ^ 64) × (range.at < 2 ^ 64) × (range.len < 2 ^ 64)
 
--- a number has 64 bits, data are bytes, and a list has an element
+-- numbers have 64 bits, data are bytes, and a list has an element
 abbrev pub IsSized : Value → Type 0
 IsSized (Count n) = n < 2 ^ 64
+IsSized (Queued queue cid) = (queue < 2 ^ 64) × (cid < 2 ^ 64)
 IsSized (Data bytes) = AreBytes bytes
 IsSized (Copied sources) = (0 < length sources) × All IsSizedSource sources
 IsSized (Covered ranges) = (0 < length ranges) × All IsSizedRange ranges

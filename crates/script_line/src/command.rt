@@ -4,35 +4,58 @@ ghost use Rattle.cp_base.specs.Words.{word_of};
 ghost use Rattle.script_line.specs.Field as grammar;
 ghost use Rattle.script_line.specs.Field.{IsShaped};
 ghost use Rattle.script_line.specs.Fits.{ranges_fit, source_space, sources_fit, values_fit};
-ghost use Rattle.script_line.specs.Line.{fields_of, send_values};
+ghost use Rattle.script_line.specs.Line.{command_fields, command_values, fields_of, send_values};
 ghost use Rattle.script_line.specs.Sized.{IsSized};
-ghost use Rattle.script_line.specs.Values.{number_at, range_view, source_view, value_view};
+ghost use Rattle.script_line.specs.Values.{identifier_at, number_at, range_view, source_view, value_view};
 ghost use Rattle.script_line.specs.declared.kind.LineKind.TheVariants as line_kind;
 ghost use Rattle.script_line.specs.declared.limits.TheConstants.{MAX_32, MAX_CID, MAX_VALUE};
 
-use crate::field::{FieldValue, RangeText, SourceText, number_at, ranges_at, sources_at};
+use crate::Version;
+use crate::field::{
+    FieldValue, RangeText, SourceText, identifier_at, number_at, ranges_at, sources_at,
+};
 use cp_base::{Bytes, Command, CommandWord, CopySource, MemRange, NoMemory, RangeList, SourceList};
 use std::alloc::Global;
 
-/// The command of a send line, by its word and what its fields say, which keeps their limits. `NoMemory`
+/// The command of a send line of a script of this version, by its word and what its fields say, which keeps their
+/// limits. `NoMemory`
 /// where memory is wanting.
 pub fn command_of(
     alloc: Global,
+    version: Version,
     word: CommandWord,
     values: Vec<FieldValue>,
 ) -> Result<Command, NoMemory>
-    requires shaped { IsShaped (fields_of (line_kind.Send word)) (map value_view values.items) }
+    requires shaped { IsShaped (fields_of (line_kind.Send version word)) (map value_view values.items) }
     requires sized { All IsSized (map value_view values.items) }
-    requires fits { values_fit (fields_of (line_kind.Send word)) (map value_view values.items) ≡ true }
-    ensures values { IfOk result (λ c. send_values (number_at (map value_view values.items) 0) c ≡ map value_view values.items) }
+    requires fits { values_fit (fields_of (line_kind.Send version word)) (map value_view values.items) ≡ true }
+    ensures values { IfOk result (λ c. send_values version (identifier_at (map value_view values.items) 0) c ≡ map value_view values.items) }
+    ensures word { IfOk result (λ c. word_of c ≡ word) }
+{
+    let mut values = values;
+    values.remove(0);
+    command_behind(alloc, version, word, values)
+}
+
+// The command of a send line by what its fields say behind the identifier.
+fn command_behind(
+    alloc: Global,
+    version: Version,
+    word: CommandWord,
+    values: Vec<FieldValue>,
+) -> Result<Command, NoMemory>
+    requires shaped { IsShaped (command_fields version word) (map value_view values.items) }
+    requires sized { All IsSized (map value_view values.items) }
+    requires fits { values_fit (command_fields version word) (map value_view values.items) ≡ true }
+    ensures values { IfOk result (λ c. command_values version c ≡ map value_view values.items) }
     ensures word { IfOk result (λ c. word_of c ≡ word) }
 {
     let said = values.as_slice();
-    let first = number_at(said, 1);
-    let second = number_at(said, 2);
-    let third = number_at(said, 3);
-    let fourth = number_at(said, 4);
-    let fifth = number_at(said, 5);
+    let first = number_at(said, 0);
+    let second = number_at(said, 1);
+    let third = number_at(said, 2);
+    let fourth = number_at(said, 3);
+    let fifth = number_at(said, 4);
     match word {
         CommandWord::NvmRead => Ok(Command::NvmRead {
             ns: first as u32,
@@ -52,7 +75,7 @@ pub fn command_of(
         CommandWord::NvmCopy => Ok(Command::NvmCopy {
             ns: first as u32,
             lba: second,
-            from: source_list(alloc, sources_at(said, 3))?,
+            from: source_list(alloc, sources_at(said, 2))?,
         }),
         CommandWord::MemRead => Ok(Command::MemRead {
             ns: first as u32,
@@ -73,10 +96,10 @@ pub fn command_of(
         CommandWord::MemCopy => Ok(Command::MemCopy {
             ns: first as u32,
             at: second,
-            from: source_list(alloc, sources_at(said, 3))?,
+            from: source_list(alloc, sources_at(said, 2))?,
         }),
         CommandWord::SetCreate => Ok(Command::SetCreate {
-            ranges: range_list(alloc, ranges_at(said, 1))?,
+            ranges: range_list(alloc, ranges_at(said, 0))?,
         }),
         CommandWord::SetDelete => Ok(Command::SetDelete { set: first as u32 }),
         CommandWord::Load => Ok(Command::Load {
@@ -95,7 +118,9 @@ pub fn command_of(
             p2: fourth,
             budget: fifth,
         }),
-        CommandWord::Abort => Ok(Command::Abort { cid: first as u32 }),
+        CommandWord::Abort => Ok(Command::Abort {
+            cid: identifier_at(said, 0) as u32,
+        }),
     }
 }
 

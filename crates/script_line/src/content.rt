@@ -3,7 +3,7 @@ ghost use Rattle.std.specs.Prelude.{◌≡◌, ◌^◌, ◌<◌, ◌++◌, ◌�
 ghost use Rattle.cp_text.specs.HexText.{AreBytes, hex_text};
 ghost use Rattle.cp_text.specs.Parts.{joined_by};
 ghost use Rattle.script_line.specs.Field as grammar;
-ghost use Rattle.script_line.specs.Field.{IsShaped, range_text, source_text, triple_text, value_text};
+ghost use Rattle.script_line.specs.Field.{IsShaped, queued_text, range_text, source_text, triple_text, value_text};
 ghost use Rattle.script_line.specs.Line.{fields_of};
 ghost use Rattle.script_line.specs.Printing.{PrintsLine};
 ghost use Rattle.script_line.specs.Sized.{IsSized, IsSizedRange, IsSizedSource};
@@ -20,6 +20,8 @@ use cp_text::{push_hex, push_number, push_piece};
 #[derive(Clone, Copy, Debug)]
 pub enum FieldContent<'a> {
     Count(u64),
+    /// A queue and an identifier in it.
+    Queued(u64, u64),
     Data(&'a Bytes),
     Copied(&'a SourceList),
     Covered(&'a RangeList),
@@ -31,6 +33,16 @@ fn push_count(out: &mut Bytes, n: u64) -> Result<(), NoMemory>
     ensures sized { n < 2 ^ 64 }
 {
     push_number(out, n)
+}
+
+// Adds a queue and an identifier in it, with a colon between.
+fn push_queued(out: &mut Bytes, queue: u64, cid: u64) -> Result<(), NoMemory>
+    ensures text { OnOk result (out.new.items ≡ out.old.items ++ queued_text queue cid) }
+    ensures sized { (queue < 2 ^ 64) × (cid < 2 ^ 64) }
+{
+    push_number(out, queue)?;
+    push_piece(out, b":")?;
+    push_number(out, cid)
 }
 
 // Adds the digits of data.
@@ -117,6 +129,7 @@ fn push_content(out: &mut Bytes, content: FieldContent) -> Result<(), NoMemory>
 {
     match content {
         FieldContent::Count(n) => push_count(out, n),
+        FieldContent::Queued(queue, cid) => push_queued(out, queue, cid),
         FieldContent::Data(bytes) => push_data(out, bytes.as_slice()),
         FieldContent::Copied(sources) => push_sources(out, sources.as_slice()),
         FieldContent::Covered(ranges) => push_ranges(out, ranges.as_slice()),

@@ -1,17 +1,17 @@
 // The fields of a line, and what they say.
-ghost use Rattle.std.specs.Prelude.{◌≡◌, ◌&&◌, nat_le, Some, map, length, option_map};
+ghost use Rattle.std.specs.Prelude.{◌≡◌, ◌^◌, ◌<◌, ◌&&◌, nat_le, Some, map, length, option_map};
 ghost use Rattle.std.specs.List.{list_all};
 ghost use Rattle.cp_base.specs.declared.limits.TheConstants.{MAX_ITEMS};
 ghost use Rattle.script_line.specs.Fits.{is_within, ranges_fit, source_space, sources_fit, value_fits};
 ghost use Rattle.script_line.specs.Reading.{after_name};
-ghost use Rattle.script_line.specs.Values.{number_at, number_in, range_view, source_view, value_view};
+ghost use Rattle.script_line.specs.Values.{identifier_at, identifier_in, number_at, number_in, queue_at, queue_in, range_view, source_view, value_view};
 ghost use Rattle.script_line.specs.declared.field.RangeText.{RangeText};
 ghost use Rattle.script_line.specs.declared.field.SourceText.{SourceText};
 ghost use Rattle.script_line.specs.declared.limits.TheConstants.{MAX_32};
 ghost use Rattle.script_line.specs.private.Outcomes.{bytes_in, field_view, ranges_at, ranges_in, sources_at, sources_in};
 ghost use Rattle.script_line.specs.private.Pushed.{front_of, is_word};
 
-use crate::limits::MAX_32;
+use crate::limits::{MAX_32, MAX_CID, VERSION_2};
 use cp_base::{Access, Bytes, MAX_ITEMS};
 use std::alloc::Global;
 
@@ -22,6 +22,8 @@ pub enum Field {
     Word(&'static [u8]),
     /// A name and a number, which is at least and at most this.
     Number(&'static [u8], u64, u64),
+    /// A name, and a queue and an identifier in it.
+    Identifier(&'static [u8]),
     /// A name and data.
     Hex(&'static [u8]),
     /// A name and the sources of a copy.
@@ -56,6 +58,8 @@ pub struct RangeText {
 #[derive(Debug, Drop)]
 pub enum FieldValue {
     Count(u64),
+    /// A queue and an identifier in it.
+    Queued(u64, u64),
     Data(Bytes),
     Copied(Vec<SourceText>),
     Covered(Vec<RangeText>),
@@ -69,6 +73,7 @@ impl Field {
         match self {
             Field::Word(text) => text,
             Field::Number(name, _, _)
+            | Field::Identifier(name)
             | Field::Hex(name)
             | Field::Sources(name)
             | Field::Ranges(name) => name,
@@ -81,7 +86,11 @@ impl Field {
     {
         match self {
             Field::Word(_) => true,
-            Field::Number(_, _, _) | Field::Hex(_) | Field::Sources(_) | Field::Ranges(_) => false,
+            Field::Number(_, _, _)
+            | Field::Identifier(_)
+            | Field::Hex(_)
+            | Field::Sources(_)
+            | Field::Ranges(_) => false,
         }
     }
 
@@ -91,6 +100,9 @@ impl Field {
     {
         match (self, value) {
             (Field::Number(_, least, most), FieldValue::Count(n)) => is_within(least, most, *n),
+            (Field::Identifier(_), FieldValue::Queued(queue, cid)) => {
+                is_within(1, VERSION_2.queues, *queue) && *cid <= MAX_CID
+            }
             (Field::Sources(_), FieldValue::Copied(sources)) => sources_fit(sources.as_slice()),
             (Field::Ranges(_), FieldValue::Covered(ranges)) => ranges_fit(ranges.as_slice()),
             _ => true,
@@ -152,7 +164,35 @@ impl FieldValue {
     {
         match self {
             FieldValue::Count(n) => *n,
+            FieldValue::Queued(_, _)
+            | FieldValue::Data(_)
+            | FieldValue::Copied(_)
+            | FieldValue::Covered(_) => 0,
+        }
+    }
+
+    // The identifier of the device that it says; 0 where it says none.
+    fn identifier(&self) -> u64
+        requires { identifier_in (Some (value_view self.now)) < 2 ^ 64 }
+        ensures { result ≡ identifier_in (Some (value_view self.now)) }
+    {
+        match self {
+            FieldValue::Count(n) => *n,
+            FieldValue::Queued(queue, cid) => queue.saturating_sub(1) * 65_536 + *cid,
             FieldValue::Data(_) | FieldValue::Copied(_) | FieldValue::Covered(_) => 0,
+        }
+    }
+
+    /// The queue that it says; 1 where it says none.
+    pub fn queue(&self) -> u64
+        ensures { result ≡ queue_in (Some (value_view self.now)) }
+    {
+        match self {
+            FieldValue::Queued(queue, _) => *queue,
+            FieldValue::Count(_)
+            | FieldValue::Data(_)
+            | FieldValue::Copied(_)
+            | FieldValue::Covered(_) => 1,
         }
     }
 
@@ -162,9 +202,10 @@ impl FieldValue {
     {
         match self {
             FieldValue::Data(bytes) => bytes,
-            FieldValue::Count(_) | FieldValue::Copied(_) | FieldValue::Covered(_) => {
-                Bytes::new(alloc)
-            }
+            FieldValue::Count(_)
+            | FieldValue::Queued(_, _)
+            | FieldValue::Copied(_)
+            | FieldValue::Covered(_) => Bytes::new(alloc),
         }
     }
 
@@ -174,7 +215,10 @@ impl FieldValue {
     {
         match self {
             FieldValue::Copied(sources) => sources.as_slice(),
-            FieldValue::Count(_) | FieldValue::Data(_) | FieldValue::Covered(_) => &[],
+            FieldValue::Count(_)
+            | FieldValue::Queued(_, _)
+            | FieldValue::Data(_)
+            | FieldValue::Covered(_) => &[],
         }
     }
 
@@ -184,7 +228,10 @@ impl FieldValue {
     {
         match self {
             FieldValue::Covered(ranges) => ranges.as_slice(),
-            FieldValue::Count(_) | FieldValue::Data(_) | FieldValue::Copied(_) => &[],
+            FieldValue::Count(_)
+            | FieldValue::Queued(_, _)
+            | FieldValue::Data(_)
+            | FieldValue::Copied(_) => &[],
         }
     }
 }
@@ -197,6 +244,28 @@ pub fn number_at(values: &[FieldValue], place: usize) -> u64
     match values.get(place) {
         Some(value) => value.number(),
         None => 0,
+    }
+}
+
+/// The identifier of the device at a place of what a line's fields say: the identifiers of a queue, of which there are
+/// 65,536, come behind those of the queues before it. 0 where there is none.
+pub fn identifier_at(values: &[FieldValue], place: usize) -> u64
+    requires { identifier_at (map value_view values.now) place < 2 ^ 64 }
+    ensures { result ≡ identifier_at (map value_view values.now) place }
+{
+    match values.get(place) {
+        Some(value) => value.identifier(),
+        None => 0,
+    }
+}
+
+/// The queue at a place of what a line's fields say; 1 where there is none.
+pub fn queue_at(values: &[FieldValue], place: usize) -> u64
+    ensures { result ≡ queue_at (map value_view values.now) place }
+{
+    match values.get(place) {
+        Some(value) => value.queue(),
+        None => 1,
     }
 }
 

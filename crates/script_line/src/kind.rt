@@ -1,14 +1,14 @@
 // The kinds of line, by their words, and the table of their fields.
-ghost use Rattle.std.specs.Prelude.{◌≡◌, ◌<◌, ◌≤◌, ◌∷◌, None, length, map, option_map, IfOk, codes};
+ghost use Rattle.std.specs.Prelude.{◌≡◌, ◌<◌, ◌≤◌, ◌∷◌, [], None, length, map, option_map, IfOk, codes};
 ghost use Rattle.cp_text.specs.Parts.{parts_between, parts_in};
-ghost use Rattle.script_line.specs.Line.{fields_of};
-ghost use Rattle.script_line.specs.Reading.{changed, kind_of, read_fields, send_kind, show_kind};
+ghost use Rattle.script_line.specs.Line.{fields_of, identifier_field};
+ghost use Rattle.script_line.specs.Reading.{changed, header_kind, kind_of, read_fields, send_kind, show_kind};
 ghost use Rattle.script_line.specs.declared.kind.LineKind.TheVariants as line_kind;
-ghost use Rattle.script_line.specs.private.Outcomes.{field_view, fields_behind, known_fields, read_rest};
+ghost use Rattle.script_line.specs.private.Outcomes.{field_view, fields_behind, known_fields, read_rest, version_of};
 
-use crate::TextCause;
 use crate::field::Field;
-use crate::limits::{MAX_32, MAX_64, MAX_CID, MAX_VALUE, VERSION_1};
+use crate::limits::{MAX_32, MAX_64, MAX_CID, MAX_VALUE, VERSION_1, VERSION_2};
+use crate::{TextCause, Version};
 use cp_base::{CommandWord, MAX_HOSTS, MAX_NAMESPACE, MAX_TRANSFER, NAMESPACES};
 use cp_text::split_part;
 
@@ -24,18 +24,19 @@ pub enum SpaceKind {
 /// The kind of a line, by its words.
 #[derive(Clone, Copy, Debug, PartialEq, Eq)]
 pub enum LineKind {
-    /// The first line, with the block's size, the queues' depth and the largest budget.
-    Header,
+    /// The first line, with the block's size, the number of queues in version 2, their depth and the largest
+    /// budget.
+    Header(Version),
     /// A namespace and its size.
     Namespace(SpaceKind),
     /// The beginning of a phase.
     Phase,
     /// The beginning of what a host does in the phase.
     Host,
-    /// A command that the host sends.
-    Send(CommandWord),
-    /// A reply that the host takes.
-    Take,
+    /// A command that the host sends, under an identifier of this version.
+    Send(Version, CommandWord),
+    /// A reply that the host takes, by an identifier of this version.
+    Take(Version),
     /// Bytes of a namespace that are shown at the end.
     Show(SpaceKind),
 }
@@ -45,11 +46,13 @@ pub enum LineKind {
 #[derive(Clone, Copy, Debug)]
 pub struct CutLine<'a> {
     pub kind: LineKind,
-    pub cid: Option<&'a [u8]>,
+    pub identifier: Option<&'a [u8]>,
     pub rest: Option<&'a [u8]>,
 }
 
 const SEND: Field = Field::Word(b"send");
+
+const TAKE: Field = Field::Word(b"take");
 
 const SHOW: Field = Field::Word(b"show");
 
@@ -75,23 +78,50 @@ const DATA: Field = Field::Hex(b"data=");
 
 const FROM: Field = Field::Sources(b"from=");
 
+const VALUE: Field = Field::Number(b"value=", 0, MAX_VALUE);
+
+const SIZE: Field = Field::Number(b"size=", 0, MAX_64);
+
+const P1: Field = Field::Number(b"p1=", 0, MAX_64);
+
+const P2: Field = Field::Number(b"p2=", 0, MAX_64);
+
+const BUDGET: Field = Field::Number(b"budget=", 0, MAX_64);
+
+const RANGES: Field = Field::Ranges(b"ranges=");
+
+const HEADER: Field = Field::Word(b"nvmecp");
+
 const SPACE: Field = Field::Number(b"", 1, NAMESPACES as u64);
 
 const SHOWN: Field = Field::Number(b"len=", 1, MAX_TRANSFER);
 
-/// The identifier of a command.
-pub const CID: Field = Field::Number(b"", 0, MAX_CID);
+const BLOCK: Field = Field::Number(b"block=", 0, MAX_64);
+
+const CID: Field = Field::Number(b"", 0, MAX_CID);
+
+const QUEUED: Field = Field::Identifier(b"");
+
+/// The field of the identifier of a command that is sent.
+pub fn identifier_field(version: Version) -> Field
+    ensures { field_view result ≡ identifier_field version [] }
+{
+    match version {
+        Version::One => CID,
+        Version::Two => QUEUED,
+    }
+}
 
 impl LineKind {
-    /// The kind of a line. The cause is `Word` where one of its words is none, and `Field` where it is
+    /// The kind of a line of a script of this version. The cause is `Word` where one of its words is none, and `Field` where it is
     /// missing.
-    pub fn cut(line: &[u8]) -> Result<CutLine, TextCause>
-        ensures kind { changed (λ cut. cut.kind) result ≡ kind_of (parts_between 32 line.now) }
+    pub fn cut(version: Version, line: &[u8]) -> Result<CutLine, TextCause>
+        ensures kind { changed (λ cut. cut.kind) result ≡ kind_of version (parts_between 32 line.now) }
         ensures rest { IfOk result (λ cut. read_fields (fields_of cut.kind) (parts_between 32 line.now) ≡ read_rest cut) }
     {
         let (word, rest) = split_part(line, b' ');
         if word == b"nvmecp".as_slice() {
-            Ok(cut_behind(LineKind::Header, rest))
+            Ok(cut_behind(LineKind::Header(stated_version(rest)), rest))
         } else if word == b"nvm".as_slice() {
             Ok(cut_behind(LineKind::Namespace(SpaceKind::Nvm), rest))
         } else if word == b"mem".as_slice() {
@@ -101,13 +131,28 @@ impl LineKind {
         } else if word == b"host".as_slice() {
             Ok(cut_behind(LineKind::Host, rest))
         } else if word == b"send".as_slice() {
-            cut_send(rest)
+            cut_send(version, rest)
         } else if word == b"take".as_slice() {
-            Ok(cut_behind(LineKind::Take, rest))
+            Ok(cut_behind(LineKind::Take(version), rest))
         } else if word == b"show".as_slice() {
             cut_show(rest)
         } else {
             Err(TextCause::Word)
+        }
+    }
+
+    /// The version of the identifier of a line that sends a command; version 1 of every other line.
+    pub fn version(self) -> Version
+        ensures { result ≡ version_of self }
+    {
+        match self {
+            LineKind::Send(version, _) => version,
+            LineKind::Header(_)
+            | LineKind::Namespace(_)
+            | LineKind::Phase
+            | LineKind::Host
+            | LineKind::Take(_)
+            | LineKind::Show(_) => Version::One,
         }
     }
 
@@ -125,13 +170,13 @@ impl LineKind {
         ensures some { result ≤ length (fields_of self) }
     {
         match self {
-            LineKind::Send(_) => 3,
+            LineKind::Send(_, _) => 3,
             LineKind::Show(_) => 2,
-            LineKind::Header
+            LineKind::Header(_)
             | LineKind::Namespace(_)
             | LineKind::Phase
             | LineKind::Host
-            | LineKind::Take => 1,
+            | LineKind::Take(_) => 1,
         }
     }
 
@@ -141,13 +186,7 @@ impl LineKind {
         ensures some { 0 < length result.now }
     {
         match self {
-            LineKind::Header => &[
-                Field::Word(b"nvmecp"),
-                Field::Word(b"1"),
-                Field::Number(b"block=", 0, MAX_64),
-                Field::Number(b"depth=", 1, VERSION_1.depth),
-                Field::Number(b"budget=", 1, VERSION_1.budget),
-            ],
+            LineKind::Header(version) => header_fields(version),
             LineKind::Namespace(SpaceKind::Nvm) => {
                 &[NVM, SPACE, Field::Number(b"blocks=", 1, MAX_NAMESPACE)]
             }
@@ -159,102 +198,119 @@ impl LineKind {
                 Field::Word(b"host"),
                 Field::Number(b"", 1, MAX_HOSTS as u64),
             ],
-            LineKind::Send(word) => send_fields(word),
-            LineKind::Take => &[Field::Word(b"take"), CID],
+            LineKind::Send(version, word) => send_fields(version, word),
+            LineKind::Take(Version::One) => &[TAKE, CID],
+            LineKind::Take(Version::Two) => &[TAKE, QUEUED],
             LineKind::Show(SpaceKind::Nvm) => &[SHOW, NVM, SPACE, AT, SHOWN],
             LineKind::Show(SpaceKind::Mem) => &[SHOW, MEM, SPACE, AT, SHOWN],
         }
     }
 }
 
-// The fields of a line that sends a command, in their order.
-fn send_fields(word: CommandWord) -> &'static [Field]
-    ensures { map field_view result.now ≡ fields_of (line_kind.Send word) }
+// The fields of a header, in their order.
+fn header_fields(version: Version) -> &'static [Field]
+    ensures fields { map field_view result.now ≡ fields_of (line_kind.Header version) }
+    ensures some { 0 < length result.now }
 {
-    match word {
-        CommandWord::NvmRead => &[SEND, CID, Field::Word(b"nvmread"), NS, LBA, COUNT],
-        CommandWord::NvmWrite => &[SEND, CID, Field::Word(b"nvmwrite"), NS, LBA, DATA],
-        CommandWord::NvmZeroes => &[SEND, CID, Field::Word(b"nvmzeroes"), NS, LBA, COUNT],
-        CommandWord::NvmCopy => &[SEND, CID, Field::Word(b"nvmcopy"), NS, LBA, FROM],
-        CommandWord::MemRead => &[SEND, CID, Field::Word(b"memread"), NS, AT, LEN],
-        CommandWord::MemWrite => &[SEND, CID, Field::Word(b"memwrite"), NS, AT, DATA],
-        CommandWord::MemFill => &[
-            SEND,
-            CID,
-            Field::Word(b"memfill"),
-            NS,
-            AT,
-            LEN,
-            Field::Number(b"value=", 0, MAX_VALUE),
+    match version {
+        Version::One => &[
+            HEADER,
+            Field::Word(b"1"),
+            BLOCK,
+            Field::Number(b"depth=", 1, VERSION_1.depth),
+            Field::Number(b"budget=", 1, VERSION_1.budget),
         ],
-        CommandWord::MemCopy => &[SEND, CID, Field::Word(b"memcopy"), NS, AT, FROM],
-        CommandWord::SetCreate => &[
-            SEND,
-            CID,
-            Field::Word(b"setcreate"),
-            Field::Ranges(b"ranges="),
+        Version::Two => &[
+            HEADER,
+            Field::Word(b"2"),
+            BLOCK,
+            Field::Number(b"queues=", 1, VERSION_2.queues),
+            Field::Number(b"depth=", 1, VERSION_2.depth),
+            Field::Number(b"budget=", 1, VERSION_2.budget),
         ],
-        CommandWord::SetDelete => &[SEND, CID, Field::Word(b"setdelete"), SET],
-        CommandWord::Load => &[
-            SEND,
-            CID,
-            Field::Word(b"load"),
-            SLOT,
-            Field::Number(b"size=", 0, MAX_64),
-            AT,
-            DATA,
-        ],
-        CommandWord::Unload => &[SEND, CID, Field::Word(b"unload"), SLOT],
-        CommandWord::Activate => &[SEND, CID, Field::Word(b"activate"), SLOT],
-        CommandWord::Deactivate => &[SEND, CID, Field::Word(b"deactivate"), SLOT],
-        CommandWord::Execute => &[
-            SEND,
-            CID,
-            Field::Word(b"execute"),
-            SLOT,
-            SET,
-            Field::Number(b"p1=", 0, MAX_64),
-            Field::Number(b"p2=", 0, MAX_64),
-            Field::Number(b"budget=", 0, MAX_64),
-        ],
-        CommandWord::Abort => &[
-            SEND,
-            CID,
-            Field::Word(b"abort"),
-            Field::Number(b"cid=", 0, MAX_CID),
-        ],
+    }
+}
+
+// The table of the fields of lines that send a command, with the field of the command's identifier and that of the
+// identifier that an Abort names.
+macro_rules! send_table {
+    ($word:expr, $sent:expr, $named:expr) => {
+        match $word {
+            CommandWord::NvmRead => &[SEND, $sent, Field::Word(b"nvmread"), NS, LBA, COUNT],
+            CommandWord::NvmWrite => &[SEND, $sent, Field::Word(b"nvmwrite"), NS, LBA, DATA],
+            CommandWord::NvmZeroes => &[SEND, $sent, Field::Word(b"nvmzeroes"), NS, LBA, COUNT],
+            CommandWord::NvmCopy => &[SEND, $sent, Field::Word(b"nvmcopy"), NS, LBA, FROM],
+            CommandWord::MemRead => &[SEND, $sent, Field::Word(b"memread"), NS, AT, LEN],
+            CommandWord::MemWrite => &[SEND, $sent, Field::Word(b"memwrite"), NS, AT, DATA],
+            CommandWord::MemFill => &[SEND, $sent, Field::Word(b"memfill"), NS, AT, LEN, VALUE],
+            CommandWord::MemCopy => &[SEND, $sent, Field::Word(b"memcopy"), NS, AT, FROM],
+            CommandWord::SetCreate => &[SEND, $sent, Field::Word(b"setcreate"), RANGES],
+            CommandWord::SetDelete => &[SEND, $sent, Field::Word(b"setdelete"), SET],
+            CommandWord::Load => &[SEND, $sent, Field::Word(b"load"), SLOT, SIZE, AT, DATA],
+            CommandWord::Unload => &[SEND, $sent, Field::Word(b"unload"), SLOT],
+            CommandWord::Activate => &[SEND, $sent, Field::Word(b"activate"), SLOT],
+            CommandWord::Deactivate => &[SEND, $sent, Field::Word(b"deactivate"), SLOT],
+            CommandWord::Execute => &[SEND, $sent, Field::Word(b"execute"), SLOT, SET, P1, P2, BUDGET],
+            CommandWord::Abort => &[SEND, $sent, Field::Word(b"abort"), $named],
+        }
+    };
+}
+
+// The fields of a line that sends a command, in their order.
+fn send_fields(version: Version, word: CommandWord) -> &'static [Field]
+    ensures fields { map field_view result.now ≡ fields_of (line_kind.Send version word) }
+    ensures some { 0 < length result.now }
+{
+    match version {
+        Version::One => send_table!(word, CID, Field::Number(b"cid=", 0, MAX_CID)),
+        Version::Two => send_table!(word, QUEUED, Field::Identifier(b"cid=")),
     }
 }
 
 // A line of this kind, of which only the words in front are read.
 fn cut_behind(kind: LineKind, rest: Option<&[u8]>) -> CutLine
-    ensures { result ≡ record { kind = kind; cid = None; rest = rest.entry } }
+    ensures { result ≡ record { kind = kind; identifier = None; rest = rest.entry } }
 {
     CutLine {
         kind,
-        cid: None,
+        identifier: None,
         rest,
+    }
+}
+
+// The version that a header states, by what stands behind its first field.
+fn stated_version(rest: Option<&[u8]>) -> Version
+    ensures { line_kind.Header result ≡ header_kind (parts_in 32 (option_map (λ text. text.now) rest.entry)) }
+{
+    let Some(fields) = rest else {
+        return Version::One;
+    };
+    let (number, _) = split_part(fields, b' ');
+    if number == b"2".as_slice() {
+        Version::Two
+    } else {
+        Version::One
     }
 }
 
 // A send line, by what stands behind its first field.
 #[tactic(auto, using(crate::proofs::Heads::send_rest))]
-fn cut_send(rest: Option<&[u8]>) -> Result<CutLine, TextCause>
-    ensures kind { changed (λ cut. cut.kind) result ≡ send_kind (parts_in 32 (option_map (λ text. text.now) rest.entry)) }
+fn cut_send(version: Version, rest: Option<&[u8]>) -> Result<CutLine, TextCause>
+    ensures kind { changed (λ cut. cut.kind) result ≡ send_kind version (parts_in 32 (option_map (λ text. text.now) rest.entry)) }
     ensures rest { IfOk result (λ cut. read_fields (fields_of cut.kind) (codes "send" ∷ parts_in 32 (option_map (λ text. text.now) rest.entry)) ≡ read_rest cut) }
 {
     let Some(fields) = rest else {
         return Err(TextCause::Field);
     };
-    let (cid, rest) = split_part(fields, b' ');
+    let (identifier, rest) = split_part(fields, b' ');
     let Some(fields) = rest else {
         return Err(TextCause::Field);
     };
     let (text, rest) = split_part(fields, b' ');
     match CommandWord::of(text) {
         Some(word) => Ok(CutLine {
-            kind: LineKind::Send(word),
-            cid: Some(cid),
+            kind: LineKind::Send(version, word),
+            identifier: Some(identifier),
             rest,
         }),
         None => Err(TextCause::Word),

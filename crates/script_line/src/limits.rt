@@ -23,18 +23,36 @@ pub struct ScriptLimits {
     pub phases: u32,
     /// The most show lines.
     pub shows: u32,
-    /// The largest depth of the queues.
+    /// The most queues of a host.
+    pub queues: u64,
+    /// The largest depth of a queue.
     pub depth: u64,
+    /// The most commands of a host that all its queues hold.
+    pub outstanding: u64,
     /// The largest budget of an execution, in instructions.
     pub budget: u64,
 }
 
 /// The limits of version 1.
 pub const VERSION_1: ScriptLimits = ScriptLimits {
-    bytes: 16_777_216,
+    bytes: 33_554_432,
     sends: 16_384,
     phases: 1_024,
     shows: 1_024,
+    queues: 1,
     depth: 256,
+    outstanding: 256,
     budget: 10_000_000,
+};
+
+/// The limits of version 2.
+pub const VERSION_2: ScriptLimits = ScriptLimits {
+    bytes: 33_554_432,
+    sends: 65_536,
+    phases: 4_096,
+    shows: 4_096,
+    queues: 16,
+    depth: 1_024,
+    outstanding: 4_096,
+    budget: 100_000_000,
 };

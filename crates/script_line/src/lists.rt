@@ -1,11 +1,11 @@
 // Numbers, and the lists of sources and ranges, by their texts.
 ghost use Rattle.std.specs.Prelude.{◌≡◌, ℕ, List, ◌∷◌, [], map, IfOk, MatchOption, option_map};
 ghost use Rattle.cp_text.specs.Parts.{parts_between, parts_in};
-ghost use Rattle.script_line.specs.Reading.{range_in, read_each, read_number, read_range, read_source, read_three, read_triple};
-ghost use Rattle.script_line.specs.Values.{Gives, range_view, source_view};
+ghost use Rattle.script_line.specs.Reading.{range_in, read_each, read_number, read_queued, read_range, read_source, read_three, read_triple};
+ghost use Rattle.script_line.specs.Values.{Gives, range_view, source_view, value_view};
 ghost use Rattle.script_line.specs.private.Outcomes.{IsShort, followed, noted, range_with};
 
-use crate::field::{RangeText, SourceText, Triple};
+use crate::field::{FieldValue, RangeText, SourceText, Triple};
 use crate::{LineEnd, TextCause};
 use cp_base::{Access, NoMemory};
 use cp_text::{number, split_part};
@@ -19,6 +19,28 @@ pub fn read_number(text: &[u8]) -> Result<u64, LineEnd>
         Some(n) => Ok(n),
         None => Err(LineEnd::Fault(TextCause::Number)),
     }
+}
+
+/// A queue and an identifier in it, with a colon between.
+#[tactic(auto, using(crate::proofs::Queues::one_part, crate::proofs::Queues::three_parts, crate::proofs::Queues::no_queue, crate::proofs::Queues::no_cid))]
+pub fn read_queued(text: &[u8]) -> Result<FieldValue, LineEnd>
+    ensures { Gives value_view result (read_queued text.now) }
+{
+    let (queue, rest) = split_part(text, b':');
+    let Some(rest) = rest else {
+        return Err(LineEnd::Fault(TextCause::Field));
+    };
+    let (cid, more) = split_part(rest, b':');
+    if more.is_some() {
+        return Err(LineEnd::Fault(TextCause::Field));
+    }
+    let Some(queue) = number(queue) else {
+        return Err(LineEnd::Fault(TextCause::Number));
+    };
+    let Some(cid) = number(cid) else {
+        return Err(LineEnd::Fault(TextCause::Number));
+    };
+    Ok(FieldValue::Queued(queue, cid))
 }
 
 // A text of three parts or more, with colons between: the three, and what stands behind them.

@@ -8,12 +8,12 @@ ghost use Rattle.script_line.specs.Field.{Value};
 ghost use Rattle.script_line.specs.Fits.{line_fits, values_fit};
 ghost use Rattle.script_line.specs.Reading.{both, line_of, or_cause, read_field};
 ghost use Rattle.script_line.specs.Values.{Gives, line_view, value_view};
-ghost use Rattle.script_line.specs.private.Outcomes.{field_view, noted, outcome, outcome_with, read_cid, read_rest, so_far, values_of};
+ghost use Rattle.script_line.specs.private.Outcomes.{field_view, noted, outcome, outcome_with, read_identifier, read_rest, so_far, values_of, version_of};
 
 use crate::field::{Field, FieldValue, after_name};
-use crate::kind::{CID, CutLine};
-use crate::lists::{noted, read_number, read_ranges, read_sources};
-use crate::{LineEnd, LineKind, TextCause};
+use crate::kind::{CutLine, identifier_field};
+use crate::lists::{noted, read_number, read_queued, read_ranges, read_sources};
+use crate::{LineEnd, LineKind, TextCause, Version};
 use cp_base::{Bytes, NoMemory};
 use cp_text::{hex_bytes, split_part};
 use std::alloc::Global;
@@ -25,12 +25,13 @@ pub struct ReadLine {
     pub values: Vec<FieldValue>,
 }
 
-/// What a line says by its text, without its newline. Its place in a script, and whether what it says
-/// keeps its limits, are not looked at. `NoMemory` where memory is wanting.
-pub fn read_line(alloc: Global, text: &[u8]) -> Result<ReadLine, LineEnd>
-    ensures { Gives line_view result (line_of text.now) }
+/// What a line of a script of this version says by its text, without its newline; a header is read by the version that
+/// it states. The line's place in a script, and whether what it says keeps its limits, are not looked at. `NoMemory`
+/// where memory is wanting.
+pub fn read_line(alloc: Global, version: Version, text: &[u8]) -> Result<ReadLine, LineEnd>
+    ensures { Gives line_view result (line_of version text.now) }
 {
-    let cut = match LineKind::cut(text) {
+    let cut = match LineKind::cut(version, text) {
         Ok(cut) => cut,
         Err(cause) => return Err(LineEnd::Fault(cause)),
     };
@@ -43,23 +44,26 @@ pub fn read_line(alloc: Global, text: &[u8]) -> Result<ReadLine, LineEnd>
 fn read_values(alloc: Global, line: CutLine) -> Result<Vec<FieldValue>, LineEnd>
     ensures { Gives (λ values. map value_view values.items) result (read_rest line.entry) }
 {
-    let mut reading = read_cid(alloc, line)?;
+    let mut reading = read_identifier(alloc, line)?;
     reading.take_all(alloc, line.kind.fields_behind())?;
     reading.finish()
 }
 
 // A line of which the identifier is read, where it sends a command.
 #[tactic(auto, using(crate::proofs::Heads::nothing_first))]
-fn read_cid(alloc: Global, line: CutLine) -> Result<Reading, NoMemory>
+fn read_identifier(alloc: Global, line: CutLine) -> Result<Reading, NoMemory>
     ensures read { IfOk result (λ reading. (more : Result (List Value) TextCause)
-        → outcome reading more ≡ both (λ xs ys. xs ++ ys) (read_cid (option_map (λ text. text.now) line.entry.cid)) more) }
+        → outcome reading more ≡ both (λ xs ys. xs ++ ys) (read_identifier (version_of line.entry.kind) (option_map (λ text. text.now) line.entry.identifier)) more) }
     ensures rest { IfOk result (λ reading. reading.rest ≡ line.entry.rest) }
 {
     let mut reading = Reading::new(alloc, line.rest);
-    if let Some(cid) = line.cid {
-        reading.read(alloc, CID, cid)?;
+    match line.identifier {
+        None => Ok(reading),
+        Some(identifier) => {
+            reading.read(alloc, identifier_field(line.kind.version()), identifier)?;
+            Ok(reading)
+        }
     }
-    Ok(reading)
 }
 
 /// Whether what a line says keeps the limits of its fields.
@@ -104,6 +108,10 @@ fn read_field(alloc: Global, field: Field, text: &[u8]) -> Result<Option<FieldVa
         Field::Word(word) => read_word(word, text),
         Field::Number(name, _, _) => match after_name(name, text) {
             Some(text) => Ok(Some(FieldValue::Count(read_number(text)?))),
+            None => Err(LineEnd::Fault(TextCause::Field)),
+        },
+        Field::Identifier(name) => match after_name(name, text) {
+            Some(text) => Ok(Some(read_queued(text)?)),
             None => Err(LineEnd::Fault(TextCause::Field)),
         },
         Field::Hex(name) => match after_name(name, text) {

@@ -1,50 +1,78 @@
 // The line of a command that is sent.
 ghost use Rattle.std.specs.Prelude.{◌≡◌, ◌++◌, ◌∷◌, [], OnOk};
-ghost use Rattle.cp_base.specs.declared.words.CommandWord.TheVariants as word;
 ghost use Rattle.script_line.specs.Field as grammar;
 ghost use Rattle.script_line.specs.Field.{IsShaped};
-ghost use Rattle.script_line.specs.Line.{counts, fields_of, send_line};
+ghost use Rattle.script_line.specs.Line.{counts, fields_of, identifier_value, send_line, take_line};
 ghost use Rattle.script_line.specs.Printing.{PrintsLine};
+ghost use Rattle.script_line.specs.Values.{content_view};
 ghost use Rattle.script_line.specs.declared.content.FieldContent.TheVariants as said;
-ghost use Rattle.script_line.specs.declared.kind.LineKind.TheVariants as line_kind;
 
-use crate::content::FieldContent::{self, Copied, Count, Covered, Data};
-use crate::{LineKind, push_line};
-use cp_base::{Bytes, Command, CommandWord, NoMemory, RangeList, SourceList};
+use crate::content::FieldContent::{self, Copied, Count, Covered, Data, Queued};
+use crate::{LineKind, Version, push_line};
+use cp_base::{Bytes, Command, NoMemory, SourceList};
 
-/// Adds the line of a command that is sent under an identifier, with its newline.
-pub fn push_send(out: &mut Bytes, cid: u32, command: &Command) -> Result<(), NoMemory>
-    ensures { OnOk result (PrintsLine (send_line cid command.now) out.old.items out.new.items) }
+/// Adds the line of a command that is sent under an identifier of the device, in a script of this version, with its
+/// newline.
+#[tactic(auto, using(crate::proofs::Sends::send_shape))]
+pub fn push_send(
+    out: &mut Bytes,
+    version: Version,
+    cid: u32,
+    command: &Command,
+) -> Result<(), NoMemory>
+    ensures { OnOk result (PrintsLine (send_line version cid command.now) out.old.items out.new.items) }
 {
-    let kind = LineKind::Send(command.word());
+    let kind = LineKind::Send(version, command.word());
+    let id = identifier(version, cid);
     match command {
-        Command::NvmRead { ns, lba, count } => push_part(out, kind, cid, *ns, *lba, *count),
-        Command::NvmWrite { ns, lba, bytes } => push_write(out, kind, cid, *ns, *lba, bytes),
-        Command::NvmZeroes { ns, lba, count } => push_part(out, kind, cid, *ns, *lba, *count),
-        Command::NvmCopy { ns, lba, from } => push_copy(out, kind, cid, *ns, *lba, from),
-        Command::MemRead { ns, at, len } => push_part(out, kind, cid, *ns, *at, *len),
-        Command::MemWrite { ns, at, bytes } => push_write(out, kind, cid, *ns, *at, bytes),
-        Command::MemFill { ns, at, len, value } => push_fill(out, cid, *ns, *at, *len, *value),
-        Command::MemCopy { ns, at, from } => push_copy(out, kind, cid, *ns, *at, from),
-        Command::SetCreate { ranges } => push_set(out, cid, ranges),
-        Command::SetDelete { set } => push_number(out, kind, cid, *set),
+        Command::NvmRead { ns, lba, count } => push_part(out, kind, id, *ns, *lba, *count),
+        Command::NvmWrite { ns, lba, bytes } => push_write(out, kind, id, *ns, *lba, bytes),
+        Command::NvmZeroes { ns, lba, count } => push_part(out, kind, id, *ns, *lba, *count),
+        Command::NvmCopy { ns, lba, from } => push_copy(out, kind, id, *ns, *lba, from),
+        Command::MemRead { ns, at, len } => push_part(out, kind, id, *ns, *at, *len),
+        Command::MemWrite { ns, at, bytes } => push_write(out, kind, id, *ns, *at, bytes),
+        Command::MemFill { ns, at, len, value } => {
+            push_fill(out, kind, id, *ns, [*at, *len], *value)
+        }
+        Command::MemCopy { ns, at, from } => push_copy(out, kind, id, *ns, *at, from),
+        Command::SetCreate { ranges } => push_line(out, kind, &[id, Covered(ranges)]),
+        Command::SetDelete { set } => push_line(out, kind, &[id, small(*set)]),
         Command::Load {
             slot,
             size,
             at,
             bytes,
-        } => push_load(out, cid, *slot, *size, *at, bytes),
-        Command::Unload { slot } => push_number(out, kind, cid, *slot),
-        Command::Activate { slot } => push_number(out, kind, cid, *slot),
-        Command::Deactivate { slot } => push_number(out, kind, cid, *slot),
+        } => push_load(out, kind, id, *slot, [*size, *at], bytes),
+        Command::Unload { slot } => push_line(out, kind, &[id, small(*slot)]),
+        Command::Activate { slot } => push_line(out, kind, &[id, small(*slot)]),
+        Command::Deactivate { slot } => push_line(out, kind, &[id, small(*slot)]),
         Command::Execute {
             slot,
             set,
             p1,
             p2,
             budget,
-        } => push_execute(out, cid, [*slot, *set], [*p1, *p2, *budget]),
-        Command::Abort { cid: other } => push_number(out, kind, cid, *other),
+        } => push_execute(out, kind, id, [*slot, *set], [*p1, *p2, *budget]),
+        Command::Abort { cid: other } => push_line(out, kind, &[id, identifier(version, *other)]),
+    }
+}
+
+/// Adds the line of a reply that is taken, by its identifier of the device, in a script of this version, with its newline.
+#[tactic(auto, using(crate::proofs::Sends::take_shape))]
+pub fn push_take(out: &mut Bytes, version: Version, cid: u32) -> Result<(), NoMemory>
+    ensures { OnOk result (PrintsLine (take_line version cid) out.old.items out.new.items) }
+{
+    push_line(out, LineKind::Take(version), &[identifier(version, cid)])
+}
+
+// An identifier of the device as a field's content: in version 2 by its queue.
+fn identifier(version: Version, cid: u32) -> FieldContent<'static>
+    ensures { content_view result ≡ identifier_value version cid }
+{
+    let cid = u64::from(cid);
+    match version {
+        Version::One => Count(cid),
+        Version::Two => Queued(cid / 65_536 + 1, cid % 65_536),
     }
 }
 
@@ -55,134 +83,105 @@ fn small(n: u32) -> FieldContent<'static>
     Count(u64::from(n))
 }
 
-// Adds a line of the identifier and one number.
-fn push_number(out: &mut Bytes, kind: LineKind, cid: u32, number: u32) -> Result<(), NoMemory>
-    requires { IsShaped (fields_of kind) (counts (cid ∷ number ∷ [])) }
-    ensures { OnOk result (PrintsLine (record { kind = kind; values = counts (cid ∷ number ∷ []) }) out.old.items out.new.items) }
-{
-    push_line(out, kind, &[small(cid), small(number)])
-}
-
 // Adds a line of the identifier and a part of a namespace.
 fn push_part(
     out: &mut Bytes,
     kind: LineKind,
-    cid: u32,
+    id: FieldContent<'static>,
     ns: u32,
     start: u64,
     len: u64,
 ) -> Result<(), NoMemory>
-    requires { IsShaped (fields_of kind) (counts (cid ∷ ns ∷ start ∷ len ∷ [])) }
-    ensures { OnOk result (PrintsLine (record { kind = kind; values = counts (cid ∷ ns ∷ start ∷ len ∷ []) }) out.old.items out.new.items) }
+    requires { IsShaped (fields_of kind) (content_view id ∷ counts (ns ∷ start ∷ len ∷ [])) }
+    ensures { OnOk result (PrintsLine (record { kind = kind; values = content_view id.entry ∷ counts (ns ∷ start ∷ len ∷ []) }) out.old.items out.new.items) }
 {
-    push_line(
-        out,
-        kind,
-        &[small(cid), small(ns), Count(start), Count(len)],
-    )
+    push_line(out, kind, &[id, small(ns), Count(start), Count(len)])
 }
 
 // Adds a line of the identifier, a place in a namespace, and what is written there.
 fn push_write(
     out: &mut Bytes,
     kind: LineKind,
-    cid: u32,
+    id: FieldContent<'static>,
     ns: u32,
     start: u64,
     bytes: &Bytes,
 ) -> Result<(), NoMemory>
-    requires { IsShaped (fields_of kind) (counts (cid ∷ ns ∷ start ∷ []) ++ grammar.Data bytes.now.items ∷ []) }
-    ensures { OnOk result (PrintsLine (record { kind = kind; values = counts (cid ∷ ns ∷ start ∷ []) ++ grammar.Data bytes.now.items ∷ [] }) out.old.items out.new.items) }
+    requires { IsShaped (fields_of kind) (content_view id ∷ counts (ns ∷ start ∷ []) ++ grammar.Data bytes.now.items ∷ []) }
+    ensures { OnOk result (PrintsLine (record { kind = kind; values = content_view id.entry ∷ counts (ns ∷ start ∷ []) ++ grammar.Data bytes.now.items ∷ [] }) out.old.items out.new.items) }
 {
-    push_line(
-        out,
-        kind,
-        &[small(cid), small(ns), Count(start), Data(bytes)],
-    )
+    push_line(out, kind, &[id, small(ns), Count(start), Data(bytes)])
 }
 
 // Adds a line of the identifier, a place in a namespace, and what is copied there.
 fn push_copy(
     out: &mut Bytes,
     kind: LineKind,
-    cid: u32,
+    id: FieldContent<'static>,
     ns: u32,
     start: u64,
     from: &SourceList,
 ) -> Result<(), NoMemory>
-    requires { IsShaped (fields_of kind) (counts (cid ∷ ns ∷ start ∷ []) ++ grammar.Copied from.now ∷ []) }
-    ensures { OnOk result (PrintsLine (record { kind = kind; values = counts (cid ∷ ns ∷ start ∷ []) ++ grammar.Copied from.now ∷ [] }) out.old.items out.new.items) }
+    requires { IsShaped (fields_of kind) (content_view id ∷ counts (ns ∷ start ∷ []) ++ grammar.Copied from.now ∷ []) }
+    ensures { OnOk result (PrintsLine (record { kind = kind; values = content_view id.entry ∷ counts (ns ∷ start ∷ []) ++ grammar.Copied from.now ∷ [] }) out.old.items out.new.items) }
 {
-    push_line(
-        out,
-        kind,
-        &[small(cid), small(ns), Count(start), Copied(from)],
-    )
+    push_line(out, kind, &[id, small(ns), Count(start), Copied(from)])
 }
 
-// Adds the line of a fill of a part of a namespace.
+// Adds a line of the identifier and a fill of a part of a namespace.
 fn push_fill(
     out: &mut Bytes,
-    cid: u32,
+    kind: LineKind,
+    id: FieldContent<'static>,
     ns: u32,
-    at: u64,
-    len: u64,
+    part: [u64; 2],
     value: u8,
 ) -> Result<(), NoMemory>
-    ensures { OnOk result (PrintsLine (record { kind = line_kind.Send word.MemFill; values = counts (cid ∷ ns ∷ at ∷ len ∷ value ∷ []) }) out.old.items out.new.items) }
+    requires { IsShaped (fields_of kind) (content_view id ∷ counts (ns ∷ (part ++ value ∷ []))) }
+    ensures { OnOk result (PrintsLine (record { kind = kind; values = content_view id.entry ∷ counts (ns ∷ (part ++ value ∷ [])) }) out.old.items out.new.items) }
 {
-    let kind = LineKind::Send(CommandWord::MemFill);
+    let [at, len] = part;
     let value = small(u32::from(value));
-    push_line(
-        out,
-        kind,
-        &[small(cid), small(ns), Count(at), Count(len), value],
-    )
+    push_line(out, kind, &[id, small(ns), Count(at), Count(len), value])
 }
 
-// Adds the line of a set of ranges.
-fn push_set(out: &mut Bytes, cid: u32, ranges: &RangeList) -> Result<(), NoMemory>
-    ensures { OnOk result (PrintsLine (record { kind = line_kind.Send word.SetCreate; values = counts (cid ∷ []) ++ grammar.Covered ranges.now ∷ [] }) out.old.items out.new.items) }
-{
-    let kind = LineKind::Send(CommandWord::SetCreate);
-    push_line(out, kind, &[small(cid), Covered(ranges)])
-}
-
-// Adds the line of a piece of a program, of this size and from this place on.
+// Adds a line of the identifier and a piece of a program, with the program's size and the place.
 fn push_load(
     out: &mut Bytes,
-    cid: u32,
+    kind: LineKind,
+    id: FieldContent<'static>,
     slot: u32,
-    size: u64,
-    at: u64,
+    numbers: [u64; 2],
     bytes: &Bytes,
 ) -> Result<(), NoMemory>
-    ensures { OnOk result (PrintsLine (record { kind = line_kind.Send word.Load; values = counts (cid ∷ slot ∷ size ∷ at ∷ []) ++ grammar.Data bytes.now.items ∷ [] }) out.old.items out.new.items) }
+    requires { IsShaped (fields_of kind) (content_view id ∷ counts (slot ∷ numbers) ++ grammar.Data bytes.now.items ∷ []) }
+    ensures { OnOk result (PrintsLine (record { kind = kind; values = content_view id.entry ∷ counts (slot ∷ numbers) ++ grammar.Data bytes.now.items ∷ [] }) out.old.items out.new.items) }
 {
-    let kind = LineKind::Send(CommandWord::Load);
+    let [size, at] = numbers;
     push_line(
         out,
         kind,
-        &[small(cid), small(slot), Count(size), Count(at), Data(bytes)],
+        &[id, small(slot), Count(size), Count(at), Data(bytes)],
     )
 }
 
-// Adds the line of an execution: a slot and a set, and the two arguments and the budget.
+// Adds a line of the identifier and an execution: a slot and a set, and the two arguments and the budget.
 fn push_execute(
     out: &mut Bytes,
-    cid: u32,
+    kind: LineKind,
+    id: FieldContent<'static>,
     tables: [u32; 2],
     numbers: [u64; 3],
 ) -> Result<(), NoMemory>
-    ensures { OnOk result (PrintsLine (record { kind = line_kind.Send word.Execute; values = counts (cid ∷ (tables ++ numbers)) }) out.old.items out.new.items) }
+    requires { IsShaped (fields_of kind) (content_view id ∷ counts (tables ++ numbers)) }
+    ensures { OnOk result (PrintsLine (record { kind = kind; values = content_view id.entry ∷ counts (tables ++ numbers) }) out.old.items out.new.items) }
 {
     let [slot, set] = tables;
     let [p1, p2, budget] = numbers;
-    let kind = LineKind::Send(CommandWord::Execute);
     let (slot, set) = (small(slot), small(set));
     push_line(
         out,
         kind,
-        &[small(cid), slot, set, Count(p1), Count(p2), Count(budget)],
+        &[id, slot, set, Count(p1), Count(p2), Count(budget)],
     )
 }

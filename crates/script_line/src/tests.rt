@@ -1,12 +1,12 @@
 // Lines both ways.
 use super::*;
-use cp_base::{Access, Bytes, CommandWord};
+use cp_base::{Access, Bytes, Command, CommandWord};
 use std::alloc::Global;
 use std::test::Fail;
 
 // What a text is read as: whether what it says keeps its limits, or its cause.
-fn judged(alloc: Global, text: &str) -> Result<Result<bool, TextCause>, Fail> {
-    match read_line(alloc, text.as_bytes()) {
+fn judged(alloc: Global, version: Version, text: &str) -> Result<Result<bool, TextCause>, Fail> {
+    match read_line(alloc, version, text.as_bytes()) {
         Ok(line) => Ok(Ok(fits(&line))),
         Err(LineEnd::Fault(cause)) => Ok(Err(cause)),
         Err(LineEnd::NoMemory) => Err(Fail::from("memory is wanting")),
@@ -56,8 +56,63 @@ fn lines_are_read(rt: HostRuntime) -> Result<(), Fail> {
         ("nvmecp 2 block=1 depth=1 budget=1", Err(TextCause::Field)),
     ];
     for (text, wanted) in table {
-        assert_eq!(rt; judged(rt.alloc(), text)?, wanted, "{text}");
+        assert_eq!(rt; judged(rt.alloc(), Version::One, text)?, wanted, "{text}");
     }
+    Ok(())
+}
+
+#[test]
+fn lines_of_version_2_are_read(rt: HostRuntime) -> Result<(), Fail> {
+    let table = [
+        (
+            "nvmecp 2 block=1 queues=16 depth=1024 budget=100000000",
+            Ok(true),
+        ),
+        ("nvmecp 2 block=1 queues=17 depth=1 budget=1", Ok(false)),
+        ("nvmecp 2 block=1 queues=1 depth=1025 budget=1", Ok(false)),
+        (
+            "nvmecp 2 block=1 queues=1 depth=1 budget=100000001",
+            Ok(false),
+        ),
+        ("nvmecp 2 block=1 queues=0 depth=1 budget=1", Ok(false)),
+        (
+            "nvmecp 1 block=1 queues=1 depth=1 budget=1",
+            Err(TextCause::Field),
+        ),
+        ("nvmecp 3 block=1 depth=1 budget=1", Err(TextCause::Field)),
+        ("nvmecp 1 block=1 depth=1 budget=1", Ok(true)),
+        ("take 1:7", Ok(true)),
+        ("take 16:65535", Ok(true)),
+        ("take 17:0", Ok(false)),
+        ("take 0:7", Ok(false)),
+        ("take 1:65536", Ok(false)),
+        ("take 7", Err(TextCause::Field)),
+        ("take 1:7:", Err(TextCause::Field)),
+        ("take :7", Err(TextCause::Number)),
+        ("take 01:7", Err(TextCause::Number)),
+        ("send 2:7 abort cid=1:65535", Ok(true)),
+        ("send 2:7 abort cid=1", Err(TextCause::Field)),
+        ("send 2:7 abort cid=1:2:3", Err(TextCause::Field)),
+        ("send 2:7 abort cid=:1", Err(TextCause::Number)),
+        ("send 2:7 abort cid=0:1", Ok(false)),
+        ("send 2:7 abort cid=1:65536", Ok(false)),
+        ("send 7 setdelete set=1", Err(TextCause::Field)),
+    ];
+    for (text, wanted) in table {
+        assert_eq!(rt; judged(rt.alloc(), Version::Two, text)?, wanted, "{text}");
+    }
+    Ok(())
+}
+
+#[test]
+fn queues_are_printed(rt: HostRuntime) -> Result<(), Fail> {
+    let mut out = Bytes::new(rt.alloc());
+    push_send(&mut out, Version::Two, 65_543, &Command::Abort { cid: 7 })?;
+    push_take(&mut out, Version::Two, 65_543)?;
+    assert_eq!(rt;
+        out.as_slice(),
+        b"send 2:7 abort cid=1:7\ntake 2:7\n".as_slice()
+    );
     Ok(())
 }
 
@@ -76,9 +131,9 @@ fn lists_are_made(rt: HostRuntime) -> Result<(), Fail> {
     let mut values = Vec::new(rt.alloc());
     values.push(FieldValue::Count(7))?;
     values.push(FieldValue::Covered(ranges))?;
-    let command = command_of(rt.alloc(), CommandWord::SetCreate, values)?;
+    let command = command_of(rt.alloc(), Version::One, CommandWord::SetCreate, values)?;
     let mut out = Bytes::new(rt.alloc());
-    push_send(&mut out, 7, &command)?;
+    push_send(&mut out, Version::One, 7, &command)?;
     assert_eq!(rt;
         out.as_slice(),
         b"send 7 setcreate ranges=1:2:3:r\n".as_slice()

@@ -6,7 +6,7 @@ use Rattle.script_cmds.specs.declared.item.Item.TheVariants as item
 use Rattle.script_cmds.specs.declared.item.HostPart.{HostPart}
 use Rattle.script_cmds.specs.declared.item.Phase.{Phase}
 use Rattle.history_model.specs.Plain.{PlainPart, plain_items, plain_part, plain_parts, plain_phases}
-use Rattle.history_model.specs.Rules.{KeepsQueue, without}
+use Rattle.history_model.specs.Rules.{KeepsEachQueue, without}
 use Rattle.history_model.specs.Sent.{Sent, Waiting, ordinals_of, next_ordinal, sends_of_items, sends_of_parts, sends_of_phases, sends_of}
 
 pub same-items : (host phase ordinal : ℕ) (waiting : List Waiting) (taken : List ℕ) (xs ys : List Item) → plain_items xs ≡ plain_items ys
@@ -57,26 +57,26 @@ same-phases phase earlier (x ∷ xs) (y ∷ ys) same =
 pub same-sends : (xs ys : List Phase) → plain_phases xs ≡ plain_phases ys → sends_of xs ≡ sends_of ys
 same-sends xs ys same = same-phases 1 [] xs ys same
 
-keeps-same : (depth : ℕ) (outstanding : List ℕ) (xs ys : List Item) → plain_items xs ≡ plain_items ys → KeepsQueue depth outstanding xs → KeepsQueue depth outstanding ys
+keeps-same : (depth : ℕ) (outstanding : List ℕ) (xs ys : List Item) → plain_items xs ≡ plain_items ys → KeepsEachQueue depth outstanding xs → KeepsEachQueue depth outstanding ys
 keeps-same depth outstanding [] [] same keeps = keeps
 keeps-same depth outstanding [] (y ∷ ys) same keeps = cc
 keeps-same depth outstanding (x ∷ xs) [] same keeps = cc
 keeps-same depth outstanding (item.Send cid command ∷ xs) (item.Send cid' command' ∷ ys) same keeps =
     let rest : plain_items xs ≡ plain_items ys = cc in
     let cids : cid ≡ cid' = cc in
-    let P : ℕ → Type 0 = λ n. KeepsQueue depth outstanding (item.Send n command' ∷ ys) in
+    let P : ℕ → Type 0 = λ n. KeepsEachQueue depth outstanding (item.Send n command' ∷ ys) in
     subst P cids (keeps.0, keeps.1, keeps-same depth (outstanding ++ cid ∷ []) xs ys rest keeps.2)
 keeps-same depth outstanding (item.Send cid command ∷ xs) (item.Take cid' ∷ ys) same keeps = cc
 keeps-same depth outstanding (item.Take cid ∷ xs) (item.Send cid' command' ∷ ys) same keeps = cc
 keeps-same depth outstanding (item.Take cid ∷ xs) (item.Take cid' ∷ ys) same keeps =
     let rest : plain_items xs ≡ plain_items ys = cc in
     let cids : cid ≡ cid' = cc in
-    let P : ℕ → Type 0 = λ n. KeepsQueue depth outstanding (item.Take n ∷ ys) in
+    let P : ℕ → Type 0 = λ n. KeepsEachQueue depth outstanding (item.Take n ∷ ys) in
     subst P cids (keeps.0, keeps-same depth (without cid outstanding) xs ys rest keeps.1)
 
--- a part keeps the rules of its queue from the start
+-- a part keeps the rules of its queues from the start
 abbrev pub KeepsPart : ℕ → HostPart → Type 0
-KeepsPart depth part = KeepsQueue depth [] part.items
+KeepsPart depth part = KeepsEachQueue depth [] part.items
 
 pub parts-keep-same : (depth : ℕ) (xs ys : List HostPart) → plain_parts xs ≡ plain_parts ys → AllByRecursion (KeepsPart depth) xs → AllByRecursion (KeepsPart depth) ys
 parts-keep-same depth [] [] same keeps = keeps

@@ -1,10 +1,9 @@
 -- The first line that breaks a rule of queues, found on the lines of a script themselves: scripts with the same
 -- lines have the same fault.
-use Rattle.std.proofs.Common.{◌≡◌, ℕ, suc, ◌+◌, ◌==◌, nat_le, Bool, true, false, not, List, [], ◌∷◌, ◌++◌, length, filter, Option, Some, None, Result, Ok, Err, if◌then◌else◌, refl, sym, ap, ◌∙◌, arith, append_assoc, length-append}
+use Rattle.std.proofs.Common.{◌≡◌, ℕ, suc, ◌+◌, ◌/◌, ◌==◌, nat_le, Bool, true, false, not, List, [], ◌∷◌, ◌++◌, length, filter, Option, Some, None, Result, Ok, Err, if◌then◌else◌, refl, sym, ap, ◌∙◌, arith, append_assoc, length-append}
 use Rattle.std.specs.Option.{option_or}
+use Rattle.std.proofs.Math.Nat.{div-one}
 use Rattle.cp_base.specs.Configuration.{Configuration}
-use Rattle.cp_base.specs.declared.commands.Command.{Command}
-use Rattle.cp_base.specs.declared.commands.Command.TheVariants as command
 use Rattle.cp_base.specs.declared.region.SpaceId.{SpaceId}
 use Rattle.cp_base.specs.declared.region.SpaceId.TheVariants as space
 use Rattle.script_line.specs.declared.kind.LineKind.{LineKind}
@@ -12,16 +11,21 @@ use Rattle.script_line.specs.declared.kind.LineKind.TheVariants as line
 use Rattle.script_line.specs.declared.kind.SpaceKind.{SpaceKind}
 use Rattle.script_line.specs.declared.kind.SpaceKind.TheVariants as space_kind
 use Rattle.script_line.specs.Field.{Value}
-use Rattle.script_line.specs.Line.{Line, send_values}
-use Rattle.script_line.specs.Values.{number_at}
+use Rattle.script_line.specs.Line.{Line, counts, identifier_value}
+use Rattle.script_line.specs.Values.{identifier_at, identifier_in}
+use Rattle.script_line.specs.declared.version.Version.{Version}
+use Rattle.script_line.specs.declared.version.Version.TheVariants as version
+use Rattle.script_cmds.specs.declared.form.Form.{Form}
+use Rattle.script_cmds.specs.Progress.{header_depth}
+use Rattle.script_cmds.specs.Queues.{queue_depth, queue_of, queues_in}
 use Rattle.script_cmds.specs.declared.item.Item.{Item}
 use Rattle.script_cmds.specs.declared.item.Item.TheVariants as item
 use Rattle.script_cmds.specs.declared.item.HostPart.{HostPart}
 use Rattle.script_cmds.specs.declared.item.Phase.{Phase}
 use Rattle.script_cmds.specs.declared.item.Show.{Show}
 use Rattle.script_cmds.specs.declared.script.Script.{Script}
-use Rattle.script_cmds.specs.Text.{configuration_lines, item_lines, lines_of, numbers_line, part_lines, phase_lines, region_line, show_lines, size_lines}
-use Rattle.history_model.specs.Plan.{Breach, PlanFault, QueueFull, CidBusy, NotOutstanding, NoHosts, both_planned, breaks, is_outstanding, lines_of_parts, plan_of, planned_hosts, planned_items, planned_parts, planned_phases, then_plan}
+use Rattle.script_cmds.specs.Text.{configuration_lines, header_numbers, item_lines, lines_of, numbers_line, part_lines, phase_lines, region_line, show_lines, size_lines}
+use Rattle.history_model.specs.Plan.{Breach, PlanFault, QueueFull, CidBusy, NotOutstanding, NoHosts, both_planned, breaks, in_queue, is_outstanding, lines_of_parts, plan_of, planned_hosts, planned_items, planned_parts, planned_phases, then_plan}
 
 abbrev fault_of : {A : Type 0} → Result A PlanFault → Option PlanFault
 fault_of (Ok planned) = None
@@ -42,19 +46,19 @@ host_first (l ∷ ls) = is_host l.kind
 -- a send and a take at a line, and what comes after them
 abbrev at_send : ℕ → ℕ → List ℕ → ℕ → (List ℕ → Option PlanFault) → Option PlanFault
 at_send depth number outstanding cid go =
-    if nat_le depth (length outstanding) then told_at number QueueFull else if is_outstanding cid outstanding then told_at number CidBusy else go (outstanding ++ cid ∷ [])
+    if nat_le depth (in_queue (queue_of cid) outstanding) then told_at number QueueFull else if is_outstanding cid outstanding then told_at number CidBusy else go (outstanding ++ cid ∷ [])
 
 abbrev at_take : ℕ → List ℕ → ℕ → (List ℕ → Option PlanFault) → Option PlanFault
 at_take number outstanding cid go = if is_outstanding cid outstanding then go (filter (λ other. not (other == cid)) outstanding) else told_at number NotOutstanding
 
 -- a line by its kind: whether a host comes next, and what comes after it
 abbrev at_line : ℕ → ℕ → List ℕ → LineKind → List Value → Bool → (List ℕ → Option PlanFault) → Option PlanFault
-at_line depth number outstanding line.Header values host go = go []
+at_line depth number outstanding (line.Header v) values host go = go []
 at_line depth number outstanding (line.Namespace kind) values host go = go []
 at_line depth number outstanding line.Phase values host go = if host then go [] else told_at number NoHosts
 at_line depth number outstanding line.Host values host go = go []
-at_line depth number outstanding (line.Send word) values host go = at_send depth number outstanding (number_at values 0) go
-at_line depth number outstanding line.Take values host go = at_take number outstanding (number_at values 0) go
+at_line depth number outstanding (line.Send v word) values host go = at_send depth number outstanding (identifier_at values 0) go
+at_line depth number outstanding (line.Take v) values host go = at_take number outstanding (identifier_at values 0) go
 at_line depth number outstanding (line.Show kind) values host go = go []
 
 -- the first fault of lines, of which the first has this number
@@ -80,23 +84,10 @@ or_assoc : (a b c : Option PlanFault) → option_or a (option_or b c) ≡ option
 or_assoc None b c = refl
 or_assoc (Some f) b c = refl
 
-cid_of_send : (cid : ℕ) (cmd : Command) → number_at (send_values cid cmd) 0 ≡ cid
-cid_of_send cid (command.NvmRead ns lba count) = refl
-cid_of_send cid (command.NvmWrite ns lba bytes) = refl
-cid_of_send cid (command.NvmZeroes ns lba count) = refl
-cid_of_send cid (command.NvmCopy ns lba from) = refl
-cid_of_send cid (command.MemRead ns at len) = refl
-cid_of_send cid (command.MemWrite ns at bytes) = refl
-cid_of_send cid (command.MemFill ns at len value) = refl
-cid_of_send cid (command.MemCopy ns at from) = refl
-cid_of_send cid (command.SetCreate ranges) = refl
-cid_of_send cid (command.SetDelete set) = refl
-cid_of_send cid (command.Load slot size at bytes) = refl
-cid_of_send cid (command.Unload slot) = refl
-cid_of_send cid (command.Activate slot) = refl
-cid_of_send cid (command.Deactivate slot) = refl
-cid_of_send cid (command.Execute slot set p1 p2 budget) = refl
-cid_of_send cid (command.Abort other) = refl
+-- what an identifier says is the identifier
+said_again : (v : Version) (cid : ℕ) → identifier_in (Some (identifier_value v cid)) ≡ cid
+said_again version.One cid = refl
+said_again version.Two cid = omega arith
 
 send_fault : {A : Type 0} (number : ℕ) (full busy : Bool) (r : Result A PlanFault) (front : A → A) (more next : Option PlanFault)
     → more ≡ option_or (fault_of r) next
@@ -118,37 +109,38 @@ none_more number = omega arith
 one_more : (number count : ℕ) → number + 1 + count ≡ number + suc count
 one_more number count = omega arith
 
-scan_items : (depth number : ℕ) (outstanding : List ℕ) (items : List Item) (rest : List Line) → IsFree rest
-    → scan depth number outstanding (item_lines items ++ rest) ≡ option_or (fault_of (planned_items depth number outstanding items)) (scan depth (number + length items) [] rest)
-scan_items depth number outstanding [] rest free = free depth number outstanding ∙ ap (λ n. scan depth n [] rest) (none_more number)
-scan_items depth number outstanding (item.Send cid sent ∷ items) rest free =
-    let more = scan_items depth (number + 1) (outstanding ++ cid ∷ []) items rest free in
+scan_items : (f : Form) (depth number : ℕ) (outstanding : List ℕ) (items : List Item) (rest : List Line) → IsFree rest
+    → scan depth number outstanding (item_lines f items ++ rest) ≡ option_or (fault_of (planned_items depth number outstanding items)) (scan depth (number + length items) [] rest)
+scan_items f depth number outstanding [] rest free = free depth number outstanding ∙ ap (λ n. scan depth n [] rest) (none_more number)
+scan_items f depth number outstanding (item.Send cid sent ∷ items) rest free =
+    let more = scan_items f depth (number + 1) (outstanding ++ cid ∷ []) items rest free in
     let next : Option PlanFault = scan depth (number + suc (length items)) [] rest in
-    ap (λ n. at_send depth number outstanding n (λ left. scan depth (number + 1) left (item_lines items ++ rest))) (cid_of_send cid sent.value)
-    ∙ send_fault number (nat_le depth (length outstanding)) (is_outstanding cid outstanding) (planned_items depth (number + 1) (outstanding ++ cid ∷ []) items) (λ xs. item.Send cid sent ∷ xs)
-    (scan depth (number + 1) (outstanding ++ cid ∷ []) (item_lines items ++ rest)) next
+    ap (λ n. at_send depth number outstanding n (λ left. scan depth (number + 1) left (item_lines f items ++ rest))) (said_again f.version cid)
+    ∙ send_fault number (nat_le depth (in_queue (queue_of cid) outstanding)) (is_outstanding cid outstanding) (planned_items depth (number + 1) (outstanding ++ cid ∷ []) items) (λ xs. item.Send cid sent ∷ xs)
+    (scan depth (number + 1) (outstanding ++ cid ∷ []) (item_lines f items ++ rest)) next
     (more ∙ ap (λ n. option_or (fault_of (planned_items depth (number + 1) (outstanding ++ cid ∷ []) items)) (scan depth n [] rest)) (one_more number (length items)))
-scan_items depth number outstanding (item.Take cid ∷ items) rest free =
+scan_items f depth number outstanding (item.Take cid ∷ items) rest free =
     let left : List ℕ = filter (λ other. not (other == cid)) outstanding in
-    let more = scan_items depth (number + 1) left items rest free in
+    let more = scan_items f depth (number + 1) left items rest free in
     let next : Option PlanFault = scan depth (number + suc (length items)) [] rest in
-    take_fault number (is_outstanding cid outstanding) (planned_items depth (number + 1) left items) (λ xs. item.Take cid ∷ xs)
-    (scan depth (number + 1) left (item_lines items ++ rest)) next
+    ap (λ n. at_take number outstanding n (λ kept. scan depth (number + 1) kept (item_lines f items ++ rest))) (said_again f.version cid)
+    ∙ take_fault number (is_outstanding cid outstanding) (planned_items depth (number + 1) left items) (λ xs. item.Take cid ∷ xs)
+    (scan depth (number + 1) left (item_lines f items ++ rest)) next
     (more ∙ ap (λ n. option_or (fault_of (planned_items depth (number + 1) left items)) (scan depth n [] rest)) (one_more number (length items)))
 
 -- ---- parts and phases
 
-free_parts : (parts : List HostPart) (rest : List Line) → IsFree rest → IsFree (part_lines parts ++ rest)
-free_parts [] rest free depth number outstanding = free depth number outstanding
-free_parts (part ∷ parts) rest free depth number outstanding = refl
+free_parts : (f : Form) (parts : List HostPart) (rest : List Line) → IsFree rest → IsFree (part_lines f parts ++ rest)
+free_parts f [] rest free depth number outstanding = free depth number outstanding
+free_parts f (part ∷ parts) rest free depth number outstanding = refl
 
-scan_parts : (depth number : ℕ) (parts : List HostPart) (rest : List Line) → IsFree rest
-    → scan depth number [] (part_lines parts ++ rest) ≡ option_or (fault_of (planned_parts depth number parts)) (scan depth (number + lines_of_parts parts) [] rest)
-scan_parts depth number [] rest free = ap (λ n. scan depth n [] rest) (none_more number)
-scan_parts depth number (part ∷ parts) rest free =
-    let joined = append_assoc (item_lines part.items) (part_lines parts) rest in
-    let items = scan_items depth (number + 1) [] part.items (part_lines parts ++ rest) (free_parts parts rest free) in
-    let more = scan_parts depth (number + 1 + length part.items) parts rest free in
+scan_parts : (f : Form) (depth number : ℕ) (parts : List HostPart) (rest : List Line) → IsFree rest
+    → scan depth number [] (part_lines f parts ++ rest) ≡ option_or (fault_of (planned_parts depth number parts)) (scan depth (number + lines_of_parts parts) [] rest)
+scan_parts f depth number [] rest free = ap (λ n. scan depth n [] rest) (none_more number)
+scan_parts f depth number (part ∷ parts) rest free =
+    let joined = append_assoc (item_lines f part.items) (part_lines f parts) rest in
+    let items = scan_items f depth (number + 1) [] part.items (part_lines f parts ++ rest) (free_parts f parts rest free) in
+    let more = scan_parts f depth (number + 1 + length part.items) parts rest free in
     let here = planned_items depth (number + 1) [] part.items in
     let there = planned_parts depth (number + 1 + length part.items) parts in
     let place : number + 1 + length part.items + lines_of_parts parts ≡ number + (1 + length part.items + lines_of_parts parts) = omega arith in
@@ -170,9 +162,9 @@ shows_behind (show ∷ shows) = by show.range.space show.range.start show.range.
     by (space.Nvm n) start len rest = record { free = λ depth number outstanding. refl; host = refl }
     by (space.Mem n) start len rest = record { free = λ depth number outstanding. refl; host = refl }
 
-phases_behind : (phases : List Phase) (shows : List Show) → IsBehind (phase_lines phases ++ show_lines shows)
-phases_behind [] shows = shows_behind shows
-phases_behind (phase ∷ phases) shows = record { free = λ depth number outstanding. refl; host = refl }
+phases_behind : (f : Form) (phases : List Phase) (shows : List Show) → IsBehind (phase_lines f phases ++ show_lines shows)
+phases_behind f [] shows = shows_behind shows
+phases_behind f (phase ∷ phases) shows = record { free = λ depth number outstanding. refl; host = refl }
 
 scan_show : (depth number : ℕ) (s : SpaceId) (start len : ℕ) (rest : List Line) → scan depth number [] (region_line s start len ∷ rest) ≡ scan depth (number + 1) [] rest
 scan_show depth number (space.Nvm n) start len rest = refl
@@ -182,23 +174,23 @@ scan_shows : (depth number : ℕ) (shows : List Show) → scan depth number [] (
 scan_shows depth number [] = refl
 scan_shows depth number (show ∷ shows) = scan_show depth number show.range.space show.range.start show.range.len (show_lines shows) ∙ scan_shows depth (number + 1) shows
 
-phase_fault : (depth number : ℕ) (hosts : List HostPart) (rest : List Line) → IsBehind rest
-    → at_line depth number [] line.Phase [] (host_first (part_lines hosts ++ rest)) (λ more. scan depth (number + 1) more (part_lines hosts ++ rest))
+phase_fault : (f : Form) (depth number : ℕ) (hosts : List HostPart) (rest : List Line) → IsBehind rest
+    → at_line depth number [] line.Phase [] (host_first (part_lines f hosts ++ rest)) (λ more. scan depth (number + 1) more (part_lines f hosts ++ rest))
     ≡ option_or (fault_of (planned_hosts depth number hosts)) (scan depth (number + 1 + lines_of_parts hosts) [] rest)
-phase_fault depth number [] rest behind = ap (λ (b : Bool). if b then scan depth (number + 1) [] rest else told_at number NoHosts) behind.host
-phase_fault depth number (part ∷ parts) rest behind = scan_parts depth (number + 1) (part ∷ parts) rest behind.free
+phase_fault f depth number [] rest behind = ap (λ (b : Bool). if b then scan depth (number + 1) [] rest else told_at number NoHosts) behind.host
+phase_fault f depth number (part ∷ parts) rest behind = scan_parts f depth (number + 1) (part ∷ parts) rest behind.free
 
-scan_phases : (depth number : ℕ) (phases : List Phase) (shows : List Show)
-    → scan depth number [] (phase_lines phases ++ show_lines shows) ≡ fault_of (planned_phases depth number phases)
-scan_phases depth number [] shows = scan_shows depth number shows
-scan_phases depth number (phase ∷ phases) shows =
-    let rest : List Line = phase_lines phases ++ show_lines shows in
+scan_phases : (f : Form) (depth number : ℕ) (phases : List Phase) (shows : List Show)
+    → scan depth number [] (phase_lines f phases ++ show_lines shows) ≡ fault_of (planned_phases depth number phases)
+scan_phases f depth number [] shows = scan_shows depth number shows
+scan_phases f depth number (phase ∷ phases) shows =
+    let rest : List Line = phase_lines f phases ++ show_lines shows in
     let head : Line = numbers_line line.Phase [] in
-    let joined = append_assoc (part_lines phase.hosts) (phase_lines phases) (show_lines shows) in
+    let joined = append_assoc (part_lines f phase.hosts) (phase_lines f phases) (show_lines shows) in
     let here = planned_hosts depth number phase.hosts in
     let there = planned_phases depth (number + 1 + lines_of_parts phase.hosts) phases in
-    ap (λ (ls : List Line). scan depth number [] (head ∷ ls)) joined ∙ phase_fault depth number phase.hosts rest (phases_behind phases shows)
-    ∙ ap (λ o. option_or (fault_of here) o) (scan_phases depth (number + 1 + lines_of_parts phase.hosts) phases shows)
+    ap (λ (ls : List Line). scan depth number [] (head ∷ ls)) joined ∙ phase_fault f depth number phase.hosts rest (phases_behind f phases shows)
+    ∙ ap (λ o. option_or (fault_of here) o) (scan_phases f depth (number + 1 + lines_of_parts phase.hosts) phases shows)
     ∙ sym (both_fault (λ hosts rest. record { hosts = hosts } ∷ rest) here there)
 
 -- ---- whole scripts
@@ -218,26 +210,37 @@ scan_sizes depth kind first (size ∷ sizes) number rest =
     sizes_by depth number (numbers_line (line.Namespace kind) (first ∷ size ∷ [])) (size_lines (line.Namespace kind) (first + 1) sizes) rest kind (size == 0) refl
     (λ n. scan_sizes depth kind (first + 1) sizes n rest)
 
--- the depth that the first line says
+-- the depth of a queue that the first line says
+abbrev depth_by : LineKind → List Value → ℕ
+depth_by (line.Header v) values = header_depth v values
+depth_by _ values = 0
+
 abbrev depth_in : List Line → ℕ
 depth_in [] = 0
-depth_in (l ∷ ls) = number_at l.values 1
+depth_in (l ∷ ls) = depth_by l.kind l.values
+
+depth_said : (v : Version) (queues : ℕ) (c : Configuration) → header_depth v (counts (header_numbers v queues c)) ≡ c.depth / queues_in v queues
+depth_said version.One queues c = sym (div-one c.depth)
+depth_said version.Two queues c = refl
 
 -- the fault of a script is found on its lines
 scanned : (script : Script) → scan (depth_in (lines_of script)) 1 [] (lines_of script) ≡ fault_of (plan_of script)
 scanned script =
+    let f : Form = script.form in
     let c : Configuration = script.config in
+    let depth : ℕ = queue_depth f c.depth in
     let nvm : List Line = size_lines (line.Namespace space_kind.Nvm) 1 c.nvm in
     let mem : List Line = size_lines (line.Namespace space_kind.Mem) 1 c.mem in
-    let phases : List Line = phase_lines script.phases in
+    let phases : List Line = phase_lines f script.phases in
     let shows : List Line = show_lines script.shows in
     let joined : ((nvm ++ mem) ++ phases) ++ shows ≡ nvm ++ (mem ++ (phases ++ shows)) = append_assoc (nvm ++ mem) phases shows ∙ append_assoc nvm mem (phases ++ shows) in
-    let place : 1 + 1 + length nvm + length mem ≡ length (configuration_lines c) + 1 = let both = length-append nvm mem in omega (arith, both) in
-    ap (λ (ls : List Line). scan c.depth (1 + 1) [] ls) joined
-    ∙ scan_sizes c.depth space_kind.Nvm 1 c.nvm (1 + 1) (mem ++ (phases ++ shows))
-    ∙ scan_sizes c.depth space_kind.Mem 1 c.mem (1 + 1 + length nvm) (phases ++ shows)
-    ∙ scan_phases c.depth (1 + 1 + length nvm + length mem) script.phases script.shows
-    ∙ ap (λ n. fault_of (planned_phases c.depth n script.phases)) place
+    let place : 1 + 1 + length nvm + length mem ≡ length (configuration_lines f c) + 1 = let both = length-append nvm mem in omega (arith, both) in
+    ap (λ (d : ℕ). scan d (1 + 1) [] (((nvm ++ mem) ++ phases) ++ shows)) (depth_said f.version f.queues c)
+    ∙ ap (λ (ls : List Line). scan depth (1 + 1) [] ls) joined
+    ∙ scan_sizes depth space_kind.Nvm 1 c.nvm (1 + 1) (mem ++ (phases ++ shows))
+    ∙ scan_sizes depth space_kind.Mem 1 c.mem (1 + 1 + length nvm) (phases ++ shows)
+    ∙ scan_phases f depth (1 + 1 + length nvm + length mem) script.phases script.shows
+    ∙ ap (λ n. fault_of (planned_phases depth n script.phases)) place
 
 same_faults : (a b : Script) → lines_of a ≡ lines_of b → fault_of (plan_of a) ≡ fault_of (plan_of b)
 same_faults a b same = sym (scanned a) ∙ ap (λ ls. scan (depth_in ls) 1 [] ls) same ∙ scanned b

@@ -8,13 +8,15 @@ use Rattle.script_cmds.specs.declared.item.Item.{Item}
 use Rattle.script_cmds.specs.declared.item.Item.TheVariants as item
 use Rattle.script_cmds.specs.declared.item.HostPart.{HostPart}
 use Rattle.script_cmds.specs.declared.item.Phase.{Phase}
-use Rattle.history_model.specs.Plan.{PlanFault, QueueFull, CidBusy, NotOutstanding, is_outstanding, planned_items, planned_parts, planned_hosts, planned_phases, lines_of_parts, then_plan, both_planned}
+use Rattle.script_cmds.specs.Queues.{queue_of}
+use Rattle.history_model.specs.Plan.{PlanFault, QueueFull, CidBusy, NotOutstanding, in_queue, is_outstanding, planned_items, planned_parts, planned_hosts, planned_phases, lines_of_parts, then_plan, both_planned}
 use Rattle.history_model.specs.Plain.{hosts_by_phase}
 use Rattle.history_model.specs.Sent.{Sent, named_in, Waiting, ordinals_of, next_ordinal, sends_of_items, sends_of_parts, sends_of_phases}
-use Rattle.history_model.specs.Rules.{KeepsQueue, without}
+use Rattle.history_model.specs.Rules.{KeepsEachQueue, without}
 use Rattle.history_model.proofs.Every.{every-All, every-weaker, every-filter, Pairwise, pairwise-append}
 use Rattle.script_plan.proofs.Alike.{KeepsPart}
 use Rattle.script_plan.proofs.Queue.{any-swap, without-absent}
+use Rattle.script_plan.proofs.ToQueues.{PartSendsTo, PhaseSendsTo, items-to}
 
 -- two identifiers are not the same
 abbrev pub Differs : ℕ → ℕ → Type 0
@@ -55,11 +57,11 @@ distinct-less cid (x ∷ xs) distinct =
     distinct-kept (not (x == cid)) x xs (without cid xs) (every-filter (Differs x) (λ other. not (other == cid)) xs distinct.0) (distinct-less cid xs distinct.1)
 
 -- what is outstanding at the end is taken one by one
-takes-keep : (depth : ℕ) (outstanding : List ℕ) → Pairwise Differs outstanding → KeepsQueue depth outstanding (map (λ cid. item.Take cid) outstanding)
+takes-keep : (depth : ℕ) (outstanding : List ℕ) → Pairwise Differs outstanding → KeepsEachQueue depth outstanding (map (λ cid. item.Take cid) outstanding)
 takes-keep depth [] distinct = refl
 takes-keep depth (cid ∷ rest) distinct =
     let gone : without cid (cid ∷ rest) ≡ rest = rw (eq-eqb cid cid refl) (without-absent cid rest distinct.0) in
-    let P : List ℕ → Type 0 = λ out. KeepsQueue depth out (map (λ c. item.Take c) rest) in
+    let P : List ℕ → Type 0 = λ out. KeepsEachQueue depth out (map (λ c. item.Take c) rest) in
     ((0, omega arith, refl), subst P (sym gone) (takes-keep depth rest distinct.1))
 
 -- an item in front of a plan of the rest
@@ -78,28 +80,28 @@ takes-send-none [] = λ host phase ordinal waiting taken. refl
 takes-send-none (cid ∷ cids) = λ host phase ordinal waiting taken.
     takes-send-none cids host phase ordinal (filter (λ (w : Waiting). not (w.cid == cid)) waiting) (taken ++ ordinals_of cid waiting)
 
--- what is planned for a host keeps the rules of its queue, and sends what its items send
+-- what is planned for a host keeps the rules of its queues, and sends what its items send
 pub items-keep : (depth line : ℕ) (outstanding : List ℕ) (items xs : List Item) → Pairwise Differs outstanding → planned_items depth line outstanding items ≡ Ok xs
-    → KeepsQueue depth outstanding xs × SendsSame xs items
+    → KeepsEachQueue depth outstanding xs × SendsSame xs items
 items-keep depth line outstanding [] xs distinct is =
-    let P : List Item → Type 0 = λ ys. KeepsQueue depth outstanding ys × SendsSame ys [] in
+    let P : List Item → Type 0 = λ ys. KeepsEachQueue depth outstanding ys × SendsSame ys [] in
     let same : map (λ cid. item.Take cid) outstanding ≡ xs = cc in
     subst P same (takes-keep depth outstanding distinct, takes-send-none outstanding)
 items-keep depth line outstanding (item.Send cid command ∷ items) xs distinct is =
-    go (nat_le depth (length outstanding)) (is_outstanding cid outstanding) refl refl is (λ rest none. items-keep depth (line + 1) (outstanding ++ cid ∷ []) items rest (distinct-more cid outstanding distinct none))
+    go (nat_le depth (in_queue (queue_of cid) outstanding)) (is_outstanding cid outstanding) refl refl is (λ rest none. items-keep depth (line + 1) (outstanding ++ cid ∷ []) items rest (distinct-more cid outstanding distinct none))
   where
-    go : (full busy : Bool) → nat_le depth (length outstanding) ≡ full → is_outstanding cid outstanding ≡ busy
+    go : (full busy : Bool) → nat_le depth (in_queue (queue_of cid) outstanding) ≡ full → is_outstanding cid outstanding ≡ busy
         → (if full then Err (record { line = line; breach = QueueFull }) else if busy then Err (record { line = line; breach = CidBusy }) else then_plan (λ rest. item.Send cid command ∷ rest) (planned_items depth (line + 1) (outstanding ++ cid ∷ []) items)) ≡ Ok xs
         → ((rest : List Item) → is_outstanding cid outstanding ≡ false → planned_items depth (line + 1) (outstanding ++ cid ∷ []) items ≡ Ok rest
-        → KeepsQueue depth (outstanding ++ cid ∷ []) rest × SendsSame rest items)
-        → KeepsQueue depth outstanding xs × SendsSame xs (item.Send cid command ∷ items)
+        → KeepsEachQueue depth (outstanding ++ cid ∷ []) rest × SendsSame rest items)
+        → KeepsEachQueue depth outstanding xs × SendsSame xs (item.Send cid command ∷ items)
     go true busy room free h more = cc
     go false true room free h more = cc
     go false false room free h more =
         let front = front-of (item.Send cid command) (planned_items depth (line + 1) (outstanding ++ cid ∷ []) items) xs h in
         let rest = more front.0 free front.1 in
-        let below : length outstanding < depth = leb-false depth (length outstanding) room in
-        let P : List Item → Type 0 = λ ys. KeepsQueue depth outstanding ys × SendsSame ys (item.Send cid command ∷ items) in
+        let below : in_queue (queue_of cid) outstanding < depth = leb-false depth (in_queue (queue_of cid) outstanding) room in
+        let P : List Item → Type 0 = λ ys. KeepsEachQueue depth outstanding ys × SendsSame ys (item.Send cid command ∷ items) in
         subst P front.2 (
           (below, not-contained cid outstanding free, rest.0),
           (λ host phase ordinal waiting taken.
@@ -113,12 +115,12 @@ items-keep depth line outstanding (item.Take cid ∷ items) xs distinct is =
     go : (found : Bool) → is_outstanding cid outstanding ≡ found
         → (if found then then_plan (λ rest. item.Take cid ∷ rest) (planned_items depth (line + 1) (without cid outstanding) items) else Err (record { line = line; breach = NotOutstanding })) ≡ Ok xs
         → ((rest : List Item) → planned_items depth (line + 1) (without cid outstanding) items ≡ Ok rest
-        → KeepsQueue depth (without cid outstanding) rest × SendsSame rest items)
-        → KeepsQueue depth outstanding xs × SendsSame xs (item.Take cid ∷ items)
+        → KeepsEachQueue depth (without cid outstanding) rest × SendsSame rest items)
+        → KeepsEachQueue depth outstanding xs × SendsSame xs (item.Take cid ∷ items)
     go true found h more =
         let front = front-of (item.Take cid) (planned_items depth (line + 1) (without cid outstanding) items) xs h in
         let rest = more front.0 front.1 in
-        let P : List Item → Type 0 = λ ys. KeepsQueue depth outstanding ys × SendsSame ys (item.Take cid ∷ items) in
+        let P : List Item → Type 0 = λ ys. KeepsEachQueue depth outstanding ys × SendsSame ys (item.Take cid ∷ items) in
         subst P front.2 (
           (contained cid outstanding found, rest.0),
           (λ host phase ordinal waiting taken. rest.1 host phase ordinal (filter (λ (w : Waiting). not (w.cid == cid)) waiting) (taken ++ ordinals_of cid waiting)),
@@ -140,12 +142,13 @@ pub record PartsKept (depth : ℕ) (xs parts : List HostPart) : Type 0 where
   pub queues : AllByRecursion (KeepsPart depth) xs
   pub hosts : part_hosts xs ≡ part_hosts parts
   pub sends : (phase : ℕ) (earlier : List Sent) → sends_of_parts phase earlier xs ≡ sends_of_parts phase earlier parts
+  pub to : (queues : ℕ) → AllByRecursion (PartSendsTo queues) parts → AllByRecursion (PartSendsTo queues) xs
 
 pub parts-keep : (depth line : ℕ) (parts xs : List HostPart) → planned_parts depth line parts ≡ Ok xs → PartsKept depth xs parts
 parts-keep depth line [] xs is =
     let P : List HostPart → Type 0 = λ ys. PartsKept depth ys [] in
     let same : [] ≡ xs = cc in
-    subst P same (record { queues = tt; hosts = refl; sends = λ phase earlier. refl })
+    subst P same (record { queues = tt; hosts = refl; sends = λ phase earlier. refl; to = λ queues all. all })
 parts-keep depth line (part ∷ parts) xs is =
     let join : List Item → List HostPart → List HostPart = λ items rest. record { host = part.host; items = items } ∷ rest in
     let split = joined join (planned_items depth (line + 1) [] part.items) (planned_parts depth (line + 1 + length part.items) parts) xs is in
@@ -158,6 +161,7 @@ parts-keep depth line (part ∷ parts) xs is =
       sends = λ phase earlier.
           ap (λ s. sends_of_parts phase (earlier ++ s) split.1) (first.1 part.host phase (next_ordinal part.host earlier) [] [])
           ∙ rest.sends phase (earlier ++ sends_of_items part.host phase (next_ordinal part.host earlier) [] [] part.items);
+      to = λ queues all. (items-to queues split.0 part.items (first.1 0 0 0 [] []) all.0, rest.to queues all.1);
     })
 
 -- a phase with a host, each of whose parts keeps the rules
@@ -181,13 +185,14 @@ pub record PhasesKept (depth : ℕ) (xs phases : List Phase) : Type 0 where
   pub rules : AllByRecursion (IsKeptPhase depth) xs
   pub hosts : hosts_by_phase xs ≡ hosts_by_phase phases
   pub sends : (phase : ℕ) (earlier : List Sent) → sends_of_phases phase earlier xs ≡ sends_of_phases phase earlier phases
+  pub to : (queues : ℕ) → AllByRecursion (PhaseSendsTo queues) phases → AllByRecursion (PhaseSendsTo queues) xs
 
 -- every plan keeps the rules, and sends what the script sends
 pub phases-keep : (depth line : ℕ) (phases xs : List Phase) → planned_phases depth line phases ≡ Ok xs → PhasesKept depth xs phases
 phases-keep depth line [] xs is =
     let P : List Phase → Type 0 = λ ys. PhasesKept depth ys [] in
     let same : [] ≡ xs = cc in
-    subst P same (record { rules = tt; hosts = refl; sends = λ phase earlier. refl })
+    subst P same (record { rules = tt; hosts = refl; sends = λ phase earlier. refl; to = λ queues all. all })
 phases-keep depth line (phase ∷ phases) xs is =
     let join : List HostPart → List Phase → List Phase = λ hosts rest. record { hosts = hosts } ∷ rest in
     let split = joined join (planned_hosts depth line phase.hosts) (planned_phases depth (line + 1 + lines_of_parts phase.hosts) phases) xs is in
@@ -200,4 +205,5 @@ phases-keep depth line (phase ∷ phases) xs is =
       sends = λ number earlier.
           ap (λ s. sends_of_phases (number + 1) s split.1) (first.1.sends number earlier)
           ∙ rest.sends (number + 1) (sends_of_parts number earlier phase.hosts);
+      to = λ queues all. (first.1.to queues all.0, rest.to queues all.1);
     })

@@ -1,8 +1,11 @@
 pub mod Alike
 pub mod Counting
+pub mod Counts
 pub mod FaultLines
 pub mod Keeping
 pub mod Queue
 pub mod SizedSends
 pub mod Steps
+pub mod ToQueues
+pub mod Together
 pub mod Whole

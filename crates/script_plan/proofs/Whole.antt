@@ -1,5 +1,5 @@
 -- A whole plan, from what its meaning is.
-use Rattle.std.proofs.Common.{◌≡◌, ℕ, ◌≤◌, List, [], ◌∷◌, map, length, Result, Ok, Err, refl, sym, ◌∙◌, ap, subst, arith}
+use Rattle.std.proofs.Common.{◌≡◌, ℕ, ◌*◌, ◌≤◌, List, [], ◌∷◌, map, length, Result, Ok, Err, refl, sym, ◌∙◌, ap, subst, arith}
 use Rattle.std.specs.List.{AllByRecursion, All}
 use Rattle.std.proofs.lemmas.List.{length-map}
 use Rattle.script_cmds.specs.declared.item.HostPart.{HostPart}
@@ -8,14 +8,17 @@ use Rattle.history_model.specs.Plain.{PlainPart, hosts_by_phase, plain_part, pla
 use Rattle.history_model.specs.Plan.{PlanFault, planned_phases}
 use Rattle.cp_base.specs.declared.limits.TheConstants.{MAX_HOSTS}
 use Rattle.script_cmds.specs.Hosts.{AscendFrom, HaveHosts, hosts_of}
-use Rattle.history_model.specs.Rules.{KeepsQueues, KeepsRules}
+use Rattle.script_cmds.specs.Queues.{PartsSendToQueues, PhasesSendToQueues}
+use Rattle.history_model.specs.Rules.{KeepEachQueue, KeepsQueue, KeepsQueues, KeepsRules}
 use Rattle.history_model.specs.Sent.{sends_of}
-use Rattle.history_model.proofs.Every.{every-All, every-of-All}
+use Rattle.history_model.proofs.Every.{every-All, every-of-All, every-weaker}
 use Rattle.script_cmds.specs.Counts.{sends_in_phases}
 use Rattle.script_plan.specs.Meant.{meant}
 use Rattle.script_plan.proofs.Alike.{KeepsPart, same-sends, parts-keep-same}
 use Rattle.script_plan.proofs.Counting.{length-sends_of}
 use Rattle.script_plan.proofs.Keeping.{IsKeptPhase, phases-keep}
+use Rattle.script_plan.proofs.ToQueues.{PartSendsTo, PhaseSendsTo, phases-to-same}
+use Rattle.script_plan.proofs.Together.{keeps-deeper, keeps-together}
 
 -- the hosts of a phase
 abbrev HasHosts : List ℕ → Type 0
@@ -25,7 +28,7 @@ as-long : (xs ys : List HostPart) → plain_parts xs ≡ plain_parts ys → leng
 as-long xs ys same = sym (length-map xs plain_part) ∙ ap length same ∙ length-map ys plain_part
 
 -- a plan that says the same keeps the rules too
-phases-keep-same : (depth : ℕ) (xs ys : List Phase) → plain_phases xs ≡ plain_phases ys → AllByRecursion (IsKeptPhase depth) xs → AllByRecursion (KeepsQueues depth) ys
+phases-keep-same : (depth : ℕ) (xs ys : List Phase) → plain_phases xs ≡ plain_phases ys → AllByRecursion (IsKeptPhase depth) xs → AllByRecursion (KeepEachQueue depth) ys
 phases-keep-same depth [] [] same keeps = tt
 phases-keep-same depth [] (y ∷ ys) same keeps = cc
 phases-keep-same depth (x ∷ xs) [] same keeps = cc
@@ -56,10 +59,10 @@ given-of depth line phases plan means = go (planned_phases depth line phases) re
     go (Ok xs) is same = record { given = xs; is = is; same = cc }
     go (Err f) is same = cc
 
-pub keeps-queues : (depth line : ℕ) (phases plan : List Phase) → Means depth line phases plan → All (KeepsQueues depth) plan
+pub keeps-queues : (depth line : ℕ) (phases plan : List Phase) → Means depth line phases plan → All (KeepEachQueue depth) plan
 keeps-queues depth line phases plan means =
     let g = given-of depth line phases plan means in
-    every-All (KeepsQueues depth) plan (phases-keep-same depth g.given plan g.same (phases-keep depth line phases g.given g.is).rules)
+    every-All (KeepEachQueue depth) plan (phases-keep-same depth g.given plan g.same (phases-keep depth line phases g.given g.is).rules)
 
 -- it sends what the script sends
 pub sends-same : (depth line : ℕ) (phases plan : List Phase) → Means depth line phases plan → sends_of plan ≡ sends_of phases
@@ -105,9 +108,45 @@ with-hosts depth (x ∷ xs) (y ∷ ys) same hosts queues =
     let here : HasHosts (hosts_of y.hosts) = subst HasHosts (sym first) hosts.0 in
     (record { queues = queues.0; ascend = here.0; numbers = here.1 }, with-hosts depth xs ys rest hosts.1 queues.1)
 
--- the plan of phases whose hosts ascend within their numbers keeps the rules
-pub keeps-rules : (depth line : ℕ) (phases plan : List Phase) → Means depth line phases plan → HaveHosts phases → All (KeepsRules depth) plan
-keeps-rules depth line phases plan means hosts =
-    let queues = every-of-All (KeepsQueues depth) plan (keeps-queues depth line phases plan means) in
-    every-All (KeepsRules depth) plan
-    (with-hosts depth phases plan (hosts-same depth line phases plan means) (every-of-All (λ (phase : Phase). HasHosts (hosts_of phase.hosts)) phases hosts) queues)
+-- ---- all queues of a host together
+
+abbrev KeepsWhole : ℕ → HostPart → Type 0
+KeepsWhole depth part = KeepsQueue depth [] part.items
+
+parts-together : (queues depth more : ℕ) (parts : List HostPart) → queues * depth ≤ more → AllByRecursion (PartSendsTo queues) parts → AllByRecursion (KeepsPart depth) parts
+    → AllByRecursion (KeepsWhole more) parts
+parts-together queues depth more [] le to keeps = tt
+parts-together queues depth more (part ∷ parts) le to keeps = (
+  keeps-deeper (queues * depth) more [] part.items le (keeps-together queues depth [] part.items tt (λ queue. omega arith) to.0 keeps.0),
+  parts-together queues depth more parts le to.1 keeps.1,
+)
+
+phases-together : (queues depth more : ℕ) (phases : List Phase) → queues * depth ≤ more → AllByRecursion (PhaseSendsTo queues) phases → AllByRecursion (KeepEachQueue depth) phases
+    → AllByRecursion (KeepsQueues more) phases
+phases-together queues depth more [] le to keeps = tt
+phases-together queues depth more (phase ∷ phases) le to keeps = (
+  record {
+    acted = keeps.0.acted;
+    queues =
+        every-All (KeepsWhole more) phase.hosts
+        (parts-together queues depth more phase.hosts le to.0 (every-of-All (KeepsPart depth) phase.hosts keeps.0.queues));
+  },
+  phases-together queues depth more phases le to.1 keeps.1,
+)
+
+each_phase_to : (queues : ℕ) (phases : List Phase) → PhasesSendToQueues queues phases → AllByRecursion (PhaseSendsTo queues) phases
+each_phase_to queues phases to =
+    every-weaker (λ (phase : Phase). PartsSendToQueues queues phase.hosts) (PhaseSendsTo queues) (λ phase parts. every-of-All (PartSendsTo queues) phase.hosts parts) phases
+    (every-of-All (λ (phase : Phase). PartsSendToQueues queues phase.hosts) phases to)
+
+-- the plan of phases whose hosts ascend within their numbers, and which send to queues that together have the
+-- device's depth, keeps the rules
+pub keeps-rules : (queues depth more line : ℕ) (phases plan : List Phase) → Means depth line phases plan → HaveHosts phases → PhasesSendToQueues queues phases → queues * depth ≤ more
+    → All (KeepsRules more) plan
+keeps-rules queues depth more line phases plan means hosts to le =
+    let g = given-of depth line phases plan means in
+    let each = every-of-All (KeepEachQueue depth) plan (keeps-queues depth line phases plan means) in
+    let goes = phases-to-same queues g.given plan g.same ((phases-keep depth line phases g.given g.is).to queues (each_phase_to queues phases to)) in
+    every-All (KeepsRules more) plan
+    (with-hosts more phases plan (hosts-same depth line phases plan means) (every-of-All (λ (phase : Phase). HasHosts (hosts_of phase.hosts)) phases hosts)
+    (phases-together queues depth more plan le goes each))

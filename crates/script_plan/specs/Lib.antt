@@ -1,3 +1,4 @@
 pub mod Cause
+pub mod Counted
 pub mod Meant
 pub mod Step

@@ -1,14 +1,15 @@
--- One item of a host under the rules of its queue. This project's own.
-use Rattle.std.specs.Prelude.{ℕ, ◌∷◌, [], ◌++◌, nat_le, List, Result, Ok, Err, if◌then◌else◌, length}
+-- One item of a host under the rules of its queues. This project's own.
+use Rattle.std.specs.Prelude.{ℕ, ◌∷◌, [], ◌++◌, nat_le, List, Result, Ok, Err, if◌then◌else◌}
 use Rattle.script_cmds.specs.declared.item.Item.{Item}
 use Rattle.script_cmds.specs.declared.item.Item.TheVariants as item
-use Rattle.history_model.specs.Plan.{Breach, QueueFull, CidBusy, NotOutstanding, is_outstanding}
+use Rattle.script_cmds.specs.Queues.{queue_of}
+use Rattle.history_model.specs.Plan.{Breach, QueueFull, CidBusy, NotOutstanding, in_queue, is_outstanding}
 use Rattle.history_model.specs.Rules.{without}
 
 -- the identifiers of the outstanding commands after a send, or the rule that it breaks
 abbrev pub sent_after : ℕ → List ℕ → ℕ → Result (List ℕ) Breach
 sent_after depth outstanding cid =
-    if nat_le depth (length outstanding) then Err QueueFull else if is_outstanding cid outstanding then Err CidBusy else Ok (outstanding ++ cid ∷ [])
+    if nat_le depth (in_queue (queue_of cid) outstanding) then Err QueueFull else if is_outstanding cid outstanding then Err CidBusy else Ok (outstanding ++ cid ∷ [])
 
 -- the same after a take
 abbrev pub taken_after : List ℕ → ℕ → Result (List ℕ) Breach

@@ -15,7 +15,7 @@ pub struct Plan {
 /// The rule of queues that a line breaks.
 #[derive(Clone, Copy, Debug, PartialEq, Eq, Error)]
 pub enum PlanCause {
-    /// A `send` while as many commands as the depth are outstanding for its host.
+    /// A `send` while as many commands as a queue's depth are outstanding in its queue.
     #[error("the host's queue is full")]
     QueueFull,
     /// A `send` under the identifier of an outstanding command of its host.

@@ -1,6 +1,8 @@
 // How many lines the parts of a script have, and how many commands it sends.
 ghost use Rattle.std.specs.Prelude.{◌≡◌, ◌+◌, ◌<◌, ◌≤◌, ◌^◌, ◌==◌, not, length, count_by};
-ghost use Rattle.script_cmds.specs.Text.{configuration_lines, phase_lines};
+ghost use Rattle.script_cmds.specs.Text.{configuration_lines};
+ghost use Rattle.script_plan.specs.Counted.{lines_of_phases};
+ghost use Rattle.script_cmds.specs.declared.form.Form.{Form};
 ghost use Rattle.history_model.specs.Plan.{lines_of_parts};
 ghost use Rattle.script_cmds.specs.Counts.{is_send, sends_in_items, sends_in_parts, sends_in_phases};
 
@@ -18,7 +20,7 @@ fn namespaces(sizes: &[u32]) -> u32
 
 /// How many lines the configuration has in a script: the header, and a line for each namespace.
 pub(crate) fn configuration_lines(config: &Config) -> u32
-    ensures value { result ≡ length (configuration_lines config.now) }
+    ensures value { (form : Form) → result ≡ length (configuration_lines form config.now) }
     ensures few { result ≤ 17 }
 {
     1 + namespaces(config.nvm()) + namespaces(config.mem())
@@ -71,7 +73,7 @@ fn part_sends(parts: &[HostPart]) -> u32
 
 /// How many commands the phases send.
 pub(crate) fn phase_sends(phases: &[Phase]) -> u32
-    requires { length (phase_lines phases.now) < 2 ^ 32 }
+    requires { lines_of_phases phases.now < 2 ^ 32 }
     ensures { result ≡ sends_in_phases phases.now }
 {
     let mut sends = 0;

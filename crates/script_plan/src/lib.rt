@@ -6,6 +6,7 @@ mod count;
 mod laws;
 mod outstanding;
 mod planning;
+mod queues;
 #[cfg(test)]
 mod tests;
 

@@ -1,8 +1,10 @@
 // The outstanding commands of a host, by their identifiers.
-ghost use Rattle.std.specs.Prelude.{◌≡◌, ◌++◌, ◌∷◌, [], false, length, OnOk, OnErr, IsTrue};
-ghost use Rattle.history_model.specs.Plan.{is_outstanding};
+ghost use Rattle.std.specs.Prelude.{◌≡◌, ◌<◌, ◌++◌, ◌∷◌, [], false, OnOk, OnErr, IsTrue};
+ghost use Rattle.script_cmds.specs.Queues.{queue_of};
+ghost use Rattle.history_model.specs.Plan.{in_queue, is_outstanding};
 ghost use Rattle.history_model.specs.Rules.{without};
 
+use crate::queues::QueueCounts;
 use cp_base::NoMemory;
 use indexmap::IndexSet;
 use std::alloc::Global;
@@ -12,17 +14,26 @@ use std::marker::Model;
 #[derive(Drop)]
 pub(crate) struct Outstanding {
     cids: IndexSet<u32>,
+    queues: QueueCounts,
+}
+
+// The queue of an identifier, counted from 0: each has 65,536 identifiers.
+fn queue_of(cid: u32) -> u32
+    ensures { result ≡ queue_of cid }
+{
+    cid / 65_536
 }
 
 impl Model for Outstanding {
     ghost use Rattle.std.specs.Prelude.{List, ℕ, nat_eq};
     ghost use Rattle.std.specs.List.{IsDistinct};
+    ghost use Rattle.script_plan.specs.Counted.{AreCounts};
 
     ghost Value = { List ℕ };
 
     ghost view = { λ o. o.cids.keys };
 
-    ghost invariant = { λ o. IsDistinct nat_eq o.cids.keys };
+    ghost invariant = { λ o. IsDistinct nat_eq o.cids.keys × AreCounts o.queues o.cids.keys };
 }
 
 impl Outstanding {
@@ -32,14 +43,15 @@ impl Outstanding {
     {
         Outstanding {
             cids: IndexSet::new(alloc),
+            queues: QueueCounts::new(alloc),
         }
     }
 
-    /// How many commands are outstanding.
-    pub(crate) fn len(&self) -> usize
-        ensures { result ≡ length self.now }
+    /// How many outstanding commands are those of the queue of an identifier.
+    pub(crate) fn in_queue_of(&self, cid: u32) -> u32
+        ensures { result ≡ in_queue (queue_of cid) self.now }
     {
-        self.cids.len()
+        self.queues.of(queue_of(cid))
     }
 
     /// Whether an outstanding command has the identifier.
@@ -51,11 +63,15 @@ impl Outstanding {
 
     /// One more command, under an identifier that no other has.
     pub(crate) fn add(&mut self, cid: u32) -> Result<(), NoMemory>
-        requires { is_outstanding cid self.old ≡ false }
+        requires free { is_outstanding cid self.old ≡ false }
+        requires few { in_queue (queue_of cid) self.old < 4294967295 }
         ensures ok { OnOk result (self.new ≡ self.old ++ cid ∷ []) }
         ensures err { OnErr result (self.new ≡ self.old) }
     {
+        let queue = queue_of(cid);
+        self.queues.reach(queue)?;
         self.cids.insert(cid)?;
+        self.queues.add_one(queue);
         Ok(())
     }
 
@@ -64,7 +80,11 @@ impl Outstanding {
         ensures found { result ≡ is_outstanding cid self.old }
         ensures after { self.new ≡ without cid self.old }
     {
-        self.cids.shift_remove(&cid)
+        let found = self.cids.shift_remove(&cid);
+        if found {
+            self.queues.take_one(queue_of(cid));
+        }
+        found
     }
 
     /// The identifiers in order of sending.

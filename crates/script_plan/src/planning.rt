@@ -1,10 +1,12 @@
 // The plan of a script.
 ghost use Rattle.std.specs.Prelude.{◌≡◌, ◌+◌, ◌++◌, ◌<◌, ◌≤◌, ◌^◌, [], map, Ok, Err, All, IfOk, IfErr, OnOk, length};
 ghost use Rattle.script_cmds.specs.Kept.{KeepsOrderAndLimits};
-ghost use Rattle.script_cmds.specs.Text.{lines_of, phase_lines};
+ghost use Rattle.script_cmds.specs.Queues.{queue_depth};
+ghost use Rattle.script_cmds.specs.Text.{lines_of};
+ghost use Rattle.script_plan.specs.Counted.{lines_of_phases};
 ghost use Rattle.history_model.specs.Plain.{hosts_by_phase, Takes, plain_item, plain_items, plain_part, plain_parts, plain_phase, plain_phases};
 ghost use Rattle.history_model.specs.Plan.{plan_of, planned_items, planned_parts, planned_hosts, planned_phases, lines_of_parts};
-ghost use Rattle.history_model.specs.Rules.{KeepsQueues, KeepsRules};
+ghost use Rattle.history_model.specs.Rules.{KeepEachQueue, KeepsRules};
 ghost use Rattle.history_model.specs.Sent.{sends_of};
 ghost use Rattle.script_plan.specs.Cause.{breach_of, ForFault};
 ghost use Rattle.script_plan.specs.Meant.{meant};
@@ -14,7 +16,8 @@ use crate::count::{configuration_lines, part_lines, phase_sends};
 use crate::outstanding::Outstanding;
 use crate::{Plan, PlanCause, PlanEnd, PlanFault};
 use cp_base::Sequence;
-use script_cmds::{HostPart, Item, Phase, Script};
+use script_cmds::{Form, HostPart, Item, Phase, Script};
+use script_line::Version;
 use std::alloc::Global;
 use std::sync::Arc;
 
@@ -24,12 +27,12 @@ fn fault(line: u32, cause: PlanCause) -> PlanEnd
     PlanEnd::Fault(PlanFault { line, cause })
 }
 
-// A command is sent: it needs a place in the queue and an identifier of its own.
+// A command is sent: it needs a place in its queue, which has this depth, and an identifier of its own.
 fn send(outstanding: &mut Outstanding, depth: u32, line: u32, cid: u32) -> Result<(), PlanEnd>
     ensures ok { OnOk result (sent_after depth outstanding.old cid ≡ Ok outstanding.new) }
     ensures err { IfErr result (λ end. ForFault end (λ f. (f.line ≡ line) × (sent_after depth outstanding.old cid ≡ Err f.breach))) }
 {
-    if outstanding.len() >= depth as usize {
+    if outstanding.in_queue_of(cid) >= depth {
         return Err(fault(line, PlanCause::QueueFull));
     }
     if outstanding.contains(cid) {
@@ -149,7 +152,7 @@ fn planned_phases(
     mut line: u32,
     phases: &[Phase],
 ) -> Result<Sequence<Phase>, PlanEnd>
-    requires { line + length (phase_lines phases.now) < 2 ^ 32 }
+    requires { line + lines_of_phases phases.now < 2 ^ 32 }
     ensures ok { IfOk result (λ planned. meant plain_phase (planned_phases depth line phases.now) ≡ Ok (plain_phases planned)) }
     ensures err { IfErr result (λ end. ForFault end (λ f. planned_phases depth line phases.now ≡ Err f)) }
 {
@@ -162,12 +165,22 @@ fn planned_phases(
     Ok(Sequence::new(planned))
 }
 
+// The depth of each queue of a host, where all of them together have this one.
+fn queue_depth(form: Form, depth: u32) -> u32
+    ensures { result ≡ queue_depth form depth }
+{
+    match form.version {
+        Version::One => depth,
+        Version::Two => depth.checked_div(form.queues).unwrap_or(0),
+    }
+}
+
 /// The plan of a script: each host's part with the takes that its end adds, in order of sending. The
 /// commands are shared with the script. Else the first line in file order that breaks a rule of queues.
 ///
 /// A host's command is outstanding from its `send` to its `take`. A `send` needs fewer outstanding
-/// commands than the depth, and then an identifier that none of them has; a `take` needs one of that
-/// identifier; a phase needs a host.
+/// commands of its queue than the queue's depth, and then an identifier that none of the host's has; a `take`
+/// needs one of that identifier; a phase needs a host.
 pub fn plan(alloc: Global, script: &Script) -> Result<Plan, PlanEnd>
     // What `parse` says of every script that it reads.
     requires lines { length (lines_of script.now) ≤ 4294967294 }
@@ -179,12 +192,13 @@ pub fn plan(alloc: Global, script: &Script) -> Result<Plan, PlanEnd>
     ensures sends { IfOk result (λ plan. sends_of plan.phases ≡ sends_of script.now.phases) }
     ensures hosts { IfOk result (λ plan. hosts_by_phase plan.phases ≡ hosts_by_phase script.now.phases) }
     ensures commands { IfOk result (λ plan. plan.commands ≡ length (sends_of plan.phases)) }
-    ensures queues { IfOk result (λ plan. All (KeepsQueues script.now.config.depth) plan.phases) }
+    ensures queues { IfOk result (λ plan. All (KeepEachQueue (queue_depth script.now.form script.now.config.depth)) plan.phases) }
     ensures rules { KeepsOrderAndLimits script.now → IfOk result (λ plan. All (KeepsRules script.now.config.depth) plan.phases) }
 {
     let phases = script.phases.as_slice();
     let line = configuration_lines(&script.config) + 1;
-    let planned = planned_phases(alloc, script.config.depth(), line, phases)?;
+    let depth = queue_depth(script.form, script.config.depth());
+    let planned = planned_phases(alloc, depth, line, phases)?;
     let commands = phase_sends(phases);
     Ok(Plan {
         phases: planned,

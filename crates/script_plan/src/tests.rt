@@ -6,7 +6,8 @@ ghost use Rattle.script_cmds.specs.Text.{lines_of};
 use crate::count::configuration_lines;
 use crate::{Plan, PlanCause, PlanEnd, PlanFault, plan};
 use cp_base::{Bytes, Command, Config, Sequence, SpaceId};
-use script_cmds::{HostPart, Item, Phase, Script, parse};
+use script_cmds::{Form, HostPart, Item, Phase, Script, parse};
+use script_line::Version;
 use std::alloc::{AllocError, Global};
 use std::sync::Arc;
 use std::test::Fail;
@@ -52,7 +53,12 @@ fn script(alloc: Global, config: Config, parts: Vec<HostPart>) -> Result<Script,
     phases.push(Phase { hosts })?;
     let phases = Sequence::new(phases);
     let shows = Sequence::new(Vec::new(alloc));
+    let form = Form {
+        version: Version::One,
+        queues: 1,
+    };
     Ok(Script {
+        form,
         config,
         phases,
         shows,
@@ -233,5 +239,25 @@ fn the_deepest_queue_fills(rt: HostRuntime) -> Result<(), Fail> {
     };
     let told = planned(rt.alloc(), text.as_slice())?.err();
     assert!(rt; told == Some(PlanEnd::Fault(want)));
+    Ok(())
+}
+
+#[test]
+fn each_queue_has_its_own_depth(rt: HostRuntime) -> Result<(), Fail> {
+    let front = "nvmecp 2 block=512 queues=2 depth=1 budget=1\nmem 1 bytes=16\nphase\nhost 1\n\
+        send 1:7 unload slot=0\nsend 2:7 unload slot=0\n";
+    let fault = |cause| Some(PlanEnd::Fault(PlanFault { line: 7, cause }));
+    for (more, wanted) in [
+        ("", None),
+        ("take 1:7\nsend 1:8 unload slot=0\n", None),
+        ("take 2:7\nsend 2:7 unload slot=0\ntake 1:7\n", None),
+        ("send 2:8 unload slot=0\n", fault(PlanCause::QueueFull)),
+        ("send 1:7 unload slot=0\n", fault(PlanCause::QueueFull)),
+        ("take 1:8\n", fault(PlanCause::NotOutstanding)),
+    ] {
+        let text = format!(in rt.alloc(); "{front}{more}")?;
+        let told = planned(rt.alloc(), text.as_str().as_bytes())?.err();
+        assert!(rt; told == wanted, "{more}");
+    }
     Ok(())
 }

@@ -13,8 +13,6 @@ mod replies;
 mod sets;
 mod slots;
 mod taking;
-#[cfg(test)]
-mod tests;
 
 pub use device::SeqDevice;
 pub use laws::steps_are_confined;

@@ -3,8 +3,6 @@
 
 mod flat;
 mod ranges;
-#[cfg(test)]
-mod tests;
 
 pub use flat::Flat;
 pub use ranges::bytes_to_range;

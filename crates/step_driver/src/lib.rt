@@ -6,4 +6,5 @@ mod running;
 mod steps;
 mod turns;
 
+pub use running::Held;
 pub use steps::run_steps;

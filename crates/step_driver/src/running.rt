@@ -13,6 +13,9 @@ ghost use Rattle.schedule_model.specs.Schedule.{Action, Ending, Sending, Turning
 ghost use Rattle.step_driver.specs.Held.{none_by};
 ghost use Rattle.step_driver.specs.Turns.{Does};
 
+#[cfg(test)]
+mod tests;
+
 use cp_base::{Command, MAX_HOSTS, NoMemory};
 use device_core::{Core, Picked};
 use job_run::Work;
@@ -22,10 +25,13 @@ use std::sync::Arc;
 
 /// The work of an open claim, with the party that claimed it and the place of the claim in the trail.
 #[derive(Drop)]
-pub(crate) struct Held {
-    by: u32,
-    claim: u32,
-    work: Work,
+pub struct Held {
+    /// The party that claimed it.
+    pub by: u32,
+    /// The place of its claim in the trail.
+    pub claim: u32,
+    /// What is left to do.
+    pub work: Work,
 }
 
 /// A device, and the works of its open claims in the order of the claims. Contracts see the device by its trail.

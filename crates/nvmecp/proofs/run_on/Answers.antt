@@ -16,6 +16,7 @@ returns-in-Ok g c =
       untouched = c.run.ensures.untouched;
       done = c.run.ensures.done;
       refused = c.run.ensures.refused;
+      denied = c.run.ensures.denied;
       made = c.run.ensures.made;
       read_fault = c.run.ensures.read_fault;
       write_fault = c.run.ensures.write_fault;
@@ -24,5 +25,6 @@ returns-in-Ok g c =
       statuses = c.run.ensures.statuses;
       accepted = c.run.ensures.accepted;
       rejected = c.run.ensures.rejected;
+      belied = c.run.ensures.belied;
     } in
     subst (λ (given : List (List ℕ)). IsRun given (exit_status c.from.result)) same (subst (λ (status : ℕ). IsRun words status) (sym c.from.ensures) ran)

@@ -6,6 +6,7 @@ use Rattle.script_line.specs.declared.kind.SpaceKind.{SpaceKind}
 use Rattle.script_line.specs.declared.kind.SpaceKind.TheVariants.{Nvm, Mem}
 use Rattle.script_line.specs.Line.{Line}
 use Rattle.script_line.specs.Sized.{AreSized}
+use Rattle.script_cmds.specs.declared.form.Form.{Form}
 use Rattle.script_cmds.specs.declared.item.Item.{Item}
 use Rattle.script_cmds.specs.declared.item.HostPart.{HostPart}
 use Rattle.script_cmds.specs.declared.item.Phase as declared
@@ -27,25 +28,25 @@ pub record Drafted : Type 0 where
   pub shows : List Show
 
 -- the lines of the part that is open
-abbrev pub open_part_lines : Stage → List Item → List Line
-open_part_lines (InPart host) items = numbers_line line.Host (host ∷ []) ∷ item_lines items
-open_part_lines _ items = []
+abbrev pub open_part_lines : Form → Stage → List Item → List Line
+open_part_lines form (InPart host) items = numbers_line line.Host (host ∷ []) ∷ item_lines form items
+open_part_lines form _ items = []
 
 -- the lines of the phase that is open
-abbrev pub open_lines : Stage → List HostPart → List Item → List Line
-open_lines InPhase hosts items = numbers_line line.Phase [] ∷ part_lines hosts ++ open_part_lines InPhase items
-open_lines (InPart host) hosts items = numbers_line line.Phase [] ∷ part_lines hosts ++ open_part_lines (InPart host) items
-open_lines _ hosts items = []
+abbrev pub open_lines : Form → Stage → List HostPart → List Item → List Line
+open_lines form InPhase hosts items = numbers_line line.Phase [] ∷ part_lines form hosts ++ open_part_lines form InPhase items
+open_lines form (InPart host) hosts items = numbers_line line.Phase [] ∷ part_lines form hosts ++ open_part_lines form (InPart host) items
+open_lines form _ hosts items = []
 
 -- the lines of the configuration, where there is one
-abbrev pub header_lines : Stage → Configuration → List Line
-header_lines AtStart config = []
-header_lines _ config = configuration_lines config
+abbrev pub header_lines : Form → Stage → Configuration → List Line
+header_lines form AtStart config = []
+header_lines form _ config = configuration_lines form config
 
 -- the lines so far
 abbrev pub lines_so_far : Progress → List declared.Phase → List HostPart → List Item → List Show → List Line
 lines_so_far p phases hosts items shows =
-    header_lines p.stage p.config ++ phase_lines phases ++ open_lines p.stage hosts items ++ show_lines shows
+    header_lines p.form p.stage p.config ++ phase_lines p.form phases ++ open_lines p.form p.stage hosts items ++ show_lines shows
 
 abbrev pub draft_lines : Drafted → List Line
 draft_lines draft = lines_so_far draft.progress draft.phases draft.hosts draft.items draft.shows

@@ -13,9 +13,11 @@ use Rattle.script_line.specs.declared.kind.LineKind.{LineKind}
 use Rattle.script_line.specs.declared.kind.LineKind.TheVariants as line
 use Rattle.script_line.specs.declared.kind.CutLine.{CutLine}
 use Rattle.script_line.specs.declared.reading.Reading.{Reading}
+use Rattle.script_line.specs.declared.version.Version.{Version}
+use Rattle.script_line.specs.declared.version.Version.TheVariants as version
 use Rattle.script_line.specs.Field as field
 use Rattle.script_line.specs.Field.{Field, Value, Data, Copied, Covered}
-use Rattle.script_line.specs.Line.{cid_number, fields_of}
+use Rattle.script_line.specs.Line.{identifier_field, fields_of}
 use Rattle.script_line.specs.Reading.{both, changed, first_of_two, mem_range, read_field, read_fields, read_three}
 use Rattle.script_line.specs.Values.{value_view}
 
@@ -23,6 +25,7 @@ use Rattle.script_line.specs.Values.{value_view}
 abbrev pub field_view : declared.Field → Field
 field_view (kind.Word text) = field.Word text.now
 field_view (kind.Number name least most) = field.Number name.now least most
+field_view (kind.Identifier name) = field.Identifier name.now
 field_view (kind.Hex name) = field.Hex name.now
 field_view (kind.Sources name) = field.Sources name.now
 field_view (kind.Ranges name) = field.Ranges name.now
@@ -56,7 +59,7 @@ outcome_with reading fields = outcome reading (read_fields fields (parts_in 32 (
 
 -- how many fields of a line are read before its kind is known
 abbrev pub known_fields : LineKind → ℕ
-known_fields (line.Send word) = 3
+known_fields (line.Send version word) = 3
 known_fields (line.Show kind) = 2
 known_fields _ = 1
 
@@ -65,14 +68,19 @@ abbrev pub fields_behind : LineKind → List Field
 fields_behind kind = drop (known_fields kind) (fields_of kind)
 
 -- what the identifier of a send line says by its text
-abbrev pub read_cid : Option (List ℕ) → Result (List Value) TextCause
-read_cid None = Ok []
-read_cid (Some text) = read_field cid_number text
+abbrev pub read_identifier : Version → Option (List ℕ) → Result (List Value) TextCause
+read_identifier version None = Ok []
+read_identifier version (Some text) = read_field (identifier_field version []) text
+
+-- the version of a send line's identifier
+abbrev pub version_of : LineKind → Version
+version_of (line.Send version word) = version
+version_of _ = version.One
 
 -- what the fields of a line say whose kind is known
 abbrev pub read_rest : CutLine → Result (List Value) TextCause
 read_rest cut =
-    both (λ xs ys. xs ++ ys) (read_cid (option_map (λ text. text.now) cut.cid))
+    both (λ xs ys. xs ++ ys) (read_identifier (version_of cut.kind) (option_map (λ text. text.now) cut.identifier))
     (read_fields (fields_behind cut.kind) (parts_in 32 (option_map (λ text. text.now) cut.rest)))
 
 -- fewer than three parts

@@ -1,6 +1,6 @@
 -- How the code prints a line, field by field. Private contracts speak of these.
 use Rattle.std.specs.Prelude.{◌≡◌, ℕ, List, [], ◌∷◌, ◌++◌, All, Bool, true, false}
-use Rattle.script_line.specs.Field.{Field, Word, Number, Hex, Sources, Ranges, Value, IsShaped, field_texts}
+use Rattle.script_line.specs.Field.{Field, Word, Number, Identifier, Hex, Sources, Ranges, Value, IsShaped, field_texts}
 use Rattle.script_line.specs.Sized.{IsSized}
 
 -- whether a field is a word
@@ -12,6 +12,7 @@ is_word _ = false
 abbrev pub front_of : Field → List ℕ
 front_of (Word text) = text
 front_of (Number name least most) = name
+front_of (Identifier name) = name
 front_of (Hex name) = name
 front_of (Sources name) = name
 front_of (Ranges name) = name

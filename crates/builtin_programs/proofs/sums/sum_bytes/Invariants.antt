@@ -1,13 +1,11 @@
 use Rattle.std.proofs.Common.{◌≡◌, ◌+◌, ◌-◌, ◌≤◌, length, sum, drop}
-use lib.Lanes.{sum_l}
 use Rattle.builtin_programs.proofs.sums.sum_bytes.Given as goal
 
 -- what is summed, and what is behind it
 abbrev pub invariant-loop-at : goal.invariant-loop-at
 invariant-loop-at l = record {
   inside : l.at ≤ length l.bytes;
-  lanes : length l.sums ≡ 16;
-  summed : sum_l l.sums + sum (drop l.at l.bytes) ≡ sum l.bytes;
+  summed : l.total + sum (drop l.at l.bytes) ≡ sum l.bytes;
 }
 
 abbrev pub decreases-loop-at : goal.decreases-loop-at

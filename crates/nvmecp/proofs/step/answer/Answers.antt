@@ -26,7 +26,7 @@ returns-in-Err-Fault-plan-clause-ends g c =
     let fault : PlanFault = told c.in-Err-Fault-plan.fault in
     refused (IsHistory c.args.workers c.args.choices input) (TellsScript input) (refusal_line fault.line c.breach_name.result.now) g.K.Sink.held g.K.Sink.faults c.args.sink.now
     c.refuse_line-in-Err-Fault-plan.new.sink c.refuse_line-in-Err-Fault-plan.result
-    (Unplanned c.in-Ok.script fault c.in-Ok.ensures.accepted (record { sized = c.in-Ok.ensures.sized; read = c.in-Ok.ensures.text })
+    (Unplanned c.in-Ok.script fault c.in-Ok.ensures.accepted (record { sized = c.in-Ok.ensures.sized; queues = c.in-Ok.ensures.queues; read = c.in-Ok.ensures.text })
     (subst (λ (end : PlanEnd). ForFault end (λ f. plan_of c.in-Ok.script ≡ Err f)) c.in-Err-Fault-plan.field-0-is c.in-Err-Fault-plan.ensures.fault)
     (ap (refusal_line fault.line) c.breach_name.ensures))
     c.refuse_line-in-Err-Fault-plan.ensures

@@ -5,6 +5,7 @@ use Rattle.script_line.specs.Sized.{AreSized}
 use Rattle.script_cmds.specs.private.Drafts.{draft_lines}
 use Rattle.script_cmds.specs.Fault.{first_fault}
 use Rattle.script_cmds.specs.Text.{lines_text}
+use Rattle.script_cmds.proofs.Exact.{script_exact}
 use Rattle.script_cmds.proofs.WholeTexts.{count_goes_on, fault_later, few_of_text, text_goes_on, told_here}
 use Rattle.script_cmds.proofs.parsing.parse.Goals as goal
 
@@ -22,7 +23,10 @@ lines-preserved c = record {
 }
 
 pub returns-clause-lines : goal.returns-clause-lines
-returns-clause-lines c = few_of_text _ (draft_lines c.lines.draft) c.lines.rest.now c.args.text.now.items 4294967294 c.in_ok-finish.ensures c.lines.invariant.text c.requires
+returns-clause-lines c = few_of_text _ (draft_lines c.lines.draft) c.lines.rest.now c.args.text.now.items 4294967294 c.in_ok-finish.ensures.lines c.lines.invariant.text c.requires
 
 pub returns-clause-sized : goal.returns-clause-sized
-returns-clause-sized c = subst (λ (ls : List Line). AreSized ls) (sym c.in_ok-finish.ensures) c.lines.invariant.draft.sized
+returns-clause-sized c = subst (λ (ls : List Line). AreSized ls) (sym c.in_ok-finish.ensures.lines) c.lines.invariant.draft.sized
+
+pub returns-clause-queues : goal.returns-clause-queues
+returns-clause-queues c = script_exact c.lines.draft _ _ c.lines.invariant.draft c.in_ok-finish.ensures.form c.in_ok-finish.ensures.config

@@ -4,4 +4,4 @@ use Rattle.script_cmds.specs.Text.{item_lines}
 use Rattle.script_cmds.proofs.printing.push_items.Given as goal
 
 abbrev pub invariant-loop-item : goal.invariant-loop-item
-invariant-loop-item l = (new : List ℕ) → Prints (item_lines (drop l.item-index l.items)) l.out.items new → Prints (item_lines l.items) l.initial.out.items new
+invariant-loop-item l = (new : List ℕ) → Prints (item_lines l.form (drop l.item-index l.items)) l.out.items new → Prints (item_lines l.form l.items) l.initial.out.items new

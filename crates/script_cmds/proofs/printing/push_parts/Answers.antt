@@ -17,10 +17,10 @@ loop-part-preserved c =
     let begun = c.push_line.new.out.items in
     let host : Prints (numbers_line line.Host (x.host ∷ []) ∷ []) old begun =
     prints_line (numbers_line line.Host (x.host ∷ [])) old begun (subst (λ (content : FieldContent). PrintsLine (record { kind = line.Host; values = content_view content ∷ [] }) old begun) c.small.ensures c.in_ok-push_line.ensures) in
-    let items : Prints (item_lines x.items) begun c.push_items.new.out.items = subst (λ xs. Prints (item_lines xs) begun c.push_items.new.out.items) c.as_slice.ensures c.in_ok-push_items.ensures in
-    λ new h. c.loop-part.invariant new (subst (λ left. Prints (part_lines left) old new) (sym (drop-next c.args.parts.now c.loop-part.part-index x c.loop-part-test.true c.part-item.is))
-    (prints_both (numbers_line line.Host (x.host ∷ []) ∷ item_lines x.items) (part_lines rest) old c.push_items.new.out.items new (prints_both (numbers_line line.Host (x.host ∷ []) ∷ []) (item_lines x.items) old begun c.push_items.new.out.items host items) h))
+    let items : Prints (item_lines c.args.form x.items) begun c.push_items.new.out.items = subst (λ xs. Prints (item_lines c.args.form xs) begun c.push_items.new.out.items) c.as_slice.ensures c.in_ok-push_items.ensures in
+    λ new h. c.loop-part.invariant new (subst (λ left. Prints (part_lines c.args.form left) old new) (sym (drop-next c.args.parts.now c.loop-part.part-index x c.loop-part-test.true c.part-item.is))
+    (prints_both (numbers_line line.Host (x.host ∷ []) ∷ item_lines c.args.form x.items) (part_lines c.args.form rest) old c.push_items.new.out.items new (prints_both (numbers_line line.Host (x.host ∷ []) ∷ []) (item_lines c.args.form x.items) old begun c.push_items.new.out.items host items) h))
 
 pub returns : goal.returns
 returns c =
-    c.loop-part.invariant c.loop-part.out.items (subst (λ left. Prints (part_lines left) c.loop-part.out.items c.loop-part.out.items) (sym (drop-none c.args.parts.now c.loop-part.part-index c.loop-part-test.false)) (prints_nothing c.loop-part.out.items))
+    c.loop-part.invariant c.loop-part.out.items (subst (λ left. Prints (part_lines c.args.form left) c.loop-part.out.items c.loop-part.out.items) (sym (drop-none c.args.parts.now c.loop-part.part-index c.loop-part-test.false)) (prints_nothing c.loop-part.out.items))

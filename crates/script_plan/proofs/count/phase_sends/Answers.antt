@@ -1,5 +1,5 @@
 use Rattle.std.proofs.Common.{◌+◌, ap, arith, drop}
-use Rattle.script_plan.proofs.Counting.{sends_in_phases-cons, sends-phases, length-phase_lines}
+use Rattle.script_plan.proofs.Counting.{sends_in_phases-cons, sends-phases, lines_of_phases-cons}
 use Rattle.history_model.specs.Plan.{lines_of_parts}
 use Rattle.script_cmds.specs.Counts.{sends_in_parts}
 use Rattle.script_line.proofs.Walk.{drop-next}
@@ -10,7 +10,7 @@ part_sends-sends-requires c =
     let i = c.loop-phase.phase-index in
     let next = drop-next c.args.phases.now i c.phase-item.result c.loop-phase-test.true c.phase-item.is in
     let rest = rw next at c.loop-phase.invariant.1 in
-    omega (arith, rest, length-phase_lines c.phase-item.result (drop (i + 1) c.args.phases.now), ap lines_of_parts c.as_slice.ensures)
+    omega (arith, rest, lines_of_phases-cons c.phase-item.result (drop (i + 1) c.args.phases.now), ap lines_of_parts c.as_slice.ensures)
 
 pub overflow_add-sends : goal.overflow_add-sends
 overflow_add-sends c =

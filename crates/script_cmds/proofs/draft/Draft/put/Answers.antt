@@ -1,8 +1,11 @@
 use Rattle.std.proofs.Common.{◌≡◌, [], ◌∷◌, ◌++◌, subst, sym}
 use Rattle.script_line.specs.Values.{line_view}
 use Rattle.script_cmds.specs.private.Drafts.{Drafted, IsDraft, draft_lines}
-use Rattle.script_cmds.proofs.Puts.{adds}
+use Rattle.script_cmds.proofs.Puts.{adds, passed}
 use Rattle.script_cmds.proofs.draft.Draft.put.Goals as goal
+
+pub store-requires-clause-judged : goal.store-requires-clause-judged
+store-requires-clause-judged c = (passed c.args.self.now.progress (line_view c.args.line) c.args.after c.requires.after).limits
 
 pub returns-clause-draft : goal.returns-clause-draft
 returns-clause-draft c =

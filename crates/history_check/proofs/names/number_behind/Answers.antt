@@ -1,0 +1,12 @@
+use Rattle.std.proofs.Common.{rules, ◌≡◌, ◌∷◌, List, ℕ, sym, ◌∙◌, ap}
+use Rattle.std.specs.Prelude.{decimal}
+use Rattle.cp_text.specs.Number.{number_of}
+use Rattle.cp_text.proofs.NumberTexts.{number_of-decimal}
+use Rattle.history_check.proofs.names.number_behind.Goals as goal
+
+pub returns-in-Some : goal.returns-in-Some
+returns-in-Some c n small is =
+    let cut : c.args.field.now ≡ c.in-Some.first.now ∷ c.in-Some.digits.now = search rules in
+    let both : c.in-Some.first.now ∷ c.in-Some.digits.now ≡ c.args.letter ∷ decimal n = sym cut ∙ is in
+    let digits : c.in-Some.digits.now ≡ decimal n = cc in
+    c.number.ensures ∙ (ap number_of digits ∙ number_of-decimal n small)

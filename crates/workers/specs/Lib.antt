@@ -1,0 +1,4 @@
+pub mod Further
+pub mod Serving
+pub mod Phases
+pub mod Plans

@@ -1,0 +1,120 @@
+#!/usr/bin/env python3
+"""Runs in which memory is refused, or in which reads and writes fail, come short or are interrupted: each allocation, each read
+and each write of the stored run in turn. `./check` calls it.
+
+    python3 tools/faults.py
+
+tools/failing.c is compiled and stands before the C library. Where there is no C compiler, nothing is tried.
+"""
+
+import os
+import shutil
+import subprocess
+import sys
+import tempfile
+from concurrent.futures import ThreadPoolExecutor
+from pathlib import Path
+
+from crates import TOP
+from hostile import is_legal
+
+PROGRAM = TOP / "out" / "nvmecp"
+STORED = TOP / "crates" / "nvmecp"
+WORDS = (STORED / "args").read_text(encoding="utf-8").split()
+SCRIPT = (STORED / "stdin").read_bytes()
+TEXT = (STORED / "stdout").read_bytes()
+PATIENCE = 120
+NO_MEMORY, READ_FAULT, WRITE_FAULT = 5, 3, 4
+
+
+class Faults:
+    """The stored run with a library before the C library that has one of its calls fail."""
+
+    def __init__(self, room):
+        self.room = Path(room)
+        self.library = self.room / "failing.so"
+        compiler = shutil.which("cc") or shutil.which("gcc") or shutil.which("clang")
+        source = TOP / "tools" / "failing.c"
+        words = [compiler, "-O1", "-shared", "-fPIC", "-o", self.library, source, "-ldl"]
+        self.is_built = compiler is not None and subprocess.run(words, check=False).returncode == 0
+
+    def run(self, words, script=SCRIPT, **settings):
+        """What the program answers to a script with these settings of tools/failing.c."""
+        how = {"env": {**os.environ, **settings, "LD_PRELOAD": str(self.library)}, "timeout": PATIENCE}
+        return subprocess.run([PROGRAM, *words], input=script, capture_output=True, check=False, **how)
+
+    def counts(self, words):
+        """How many allocations, reads and writes a run has in which none fails."""
+        file = self.room / "counts"
+        self.run(words, COUNTS=str(file))
+        return tuple(map(int, file.read_text(encoding="utf-8").split()))
+
+
+def told(done):
+    return f"status {done.returncode}, {done.stdout[:80]!r}{done.stderr[:80]!r}"
+
+
+def without_memory(done):
+    """What is wrong where memory was refused: nothing is written, or a legal history is."""
+    if done.returncode == NO_MEMORY and not done.stdout and not done.stderr:
+        return None
+    fits = done.returncode == 0 and not done.stderr and (done.stdout == TEXT or is_legal(SCRIPT, done.stdout))
+    return None if fits else told(done)
+
+
+def with_read_fault(done):
+    """What is wrong where a read failed: nothing may be written."""
+    return None if done.returncode == READ_FAULT and not done.stdout and not done.stderr else told(done)
+
+
+def with_write_fault(done):
+    """What is wrong where a write failed: a front of the text may be written."""
+    fits = done.returncode == WRITE_FAULT and TEXT.startswith(done.stdout) and len(done.stdout) < len(TEXT) and not done.stderr
+    return None if fits else told(done)
+
+
+def whole(done):
+    """What is wrong where nothing failed."""
+    return None if done.returncode == 0 and done.stdout == TEXT and not done.stderr else told(done)
+
+
+def check_faults(note):
+    """Each allocation, read and write of the stored run fails in turn."""
+    with tempfile.TemporaryDirectory() as room, ThreadPoolExecutor() as pool:
+        faults = Faults(room)
+        if not faults.is_built:
+            print("not tried: refused memory and failing reads and writes, since there is no C compiler", flush=True)
+            return
+        allocations, reads, writes = faults.counts(WORDS)
+
+        def each(count, setting, judge):
+            tries = pool.map(lambda number: (number, judge(faults.run(WORDS, **{setting: str(number)}))), range(1, count + 1))
+            return "; ".join(f"at {number}: {wrong}" for number, wrong in tries if wrong)[:400] or None
+
+        for what, count, setting, judge in (
+            ("allocation", allocations, "FAIL_ALLOCATION", without_memory),
+            ("read", reads, "FAIL_READ", with_read_fault),
+            ("write", writes, "FAIL_WRITE", with_write_fault),
+        ):
+            wrong = each(count, setting, judge) if count else "there is none"
+            note(f"the stored run, each {what} fails in turn ({count})", wrong)
+        for what, settings in (
+            ("each read and write moves one byte", {"SHORT_IO": "1"}),
+            ("each read and write is interrupted a hundred times", {"INTERRUPTED": "100"}),
+        ):
+            note(f"the stored run, {what}", whole(faults.run(WORDS, **settings)))
+
+
+def main():
+    failed = []
+
+    def note(what, wrong):
+        failed.extend([what] if wrong else [])
+        print(f"FAILED  {what}: {wrong}" if wrong else f"passed  {what}", flush=True)
+
+    check_faults(note)
+    return 1 if failed else 0
+
+
+if __name__ == "__main__":
+    sys.exit(main())
