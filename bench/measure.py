@@ -12,10 +12,11 @@ PROGRAM = TOP / "out" / "nvmecp"
 
 
 class Run:
-    """What one run took and gave."""
+    """What one run took and gave: seconds, and seconds of processor time outside the system among them."""
 
-    def __init__(self, seconds, peak_kib, status, text):
+    def __init__(self, seconds, busy, peak_kib, status, text):
         self.seconds = seconds
+        self.busy = busy
         self.peak_kib = peak_kib
         self.status = status
         self.text = text
@@ -41,7 +42,7 @@ def run_once(words, data, keep, program=PROGRAM):
         seconds = time.perf_counter() - began
         child.returncode = os.waitstatus_to_exitcode(state)
         sink.seek(0)
-        return Run(seconds, usage.ru_maxrss, child.returncode, sink.read() if keep else b"")
+        return Run(seconds, usage.ru_utime, usage.ru_maxrss, child.returncode, sink.read() if keep else b"")
 
 
 def best_of(times, words, data, status, text=None, keep=True):

@@ -15,6 +15,7 @@ from faults import check_faults
 from hostile import check_hostile
 from loads import check_loads
 from schedules import check_schedules
+from serving import check_serving
 from traces import check_traces
 
 PROGRAM = "./nvmecp"
@@ -87,7 +88,8 @@ def check_statuses(checks):
     """The statuses that no example has."""
     for words in (
         *("", "help", "--help", "step", "step 1", "step 1 00", "step 0 0", "step 17 0", "step -- 1 0", "step 1 0 0", "asm dis", "asm x", "'' "),
-        *("make", "make 7", "make 0 8193", "make 18446744073709551616 1", "make 07 1", "make -1 1", "make 7 1 1", "serve 4", "upgrade 1"),
+        *("make", "make 7", "make 0 8193", "make 18446744073709551616 1", "make 07 1", "make -1 1", "make 7 1 1", "upgrade 1"),
+        *("serve", "serve 0", "serve 17", "serve 04", "serve 4 0"),
     ):
         checks.note(f"wrong words: {words or 'none'}", wrong_in(shell(f"{PROGRAM} {words} < {FIRST_WRITE}"), 1, b""))
     for what, command, status, text in (
@@ -96,6 +98,9 @@ def check_statuses(checks):
         ("a full device as standard output", f"{PROGRAM} step 1 0 < {FIRST_WRITE} > /dev/full", 4, b""),
         ("upgrade with a full device as standard output", f"{PROGRAM} upgrade < {FIRST_WRITE} > /dev/full", 4, b""),
         ("upgrade twice", f"{PROGRAM} upgrade < {FIRST_WRITE} | {PROGRAM} upgrade | {PROGRAM} step 1 0", 0, b"#1 h1 n1 c1 memwrite Ok r=0 d=\nshow mem 1 at=0 len=4 d=01020000\n"),
+        ("serve with standard input closed", f"{PROGRAM} serve 4 <&-", 3, b""),
+        ("serve with a full device as standard output", f"{PROGRAM} serve 4 < {FIRST_WRITE} > /dev/full", 4, b""),
+        ("serve of a script that is refused", f"{PROGRAM} serve 4 < examples/full-queue.script", 2, b"line 6: QueueFull\n"),
         ("standard output closed", f"{PROGRAM} step 1 0 < {FIRST_WRITE} >&-", 4, b""),
         ("make with standard input closed", f"{PROGRAM} make 0 0 <&-", 0, b"commands 4\nok 4\nother 0\nsum 3\n"),
         ("make with a full device as standard output", f"{PROGRAM} make 0 0 > /dev/full", 4, b""),
@@ -143,6 +148,7 @@ def main():
     check_statuses(checks)
     check_hostile(checks.note)
     check_schedules(checks.note)
+    check_serving(checks.note)
     check_loads(checks.note)
     check_faults(checks.note)
     check_traces(checks.note)

@@ -27,7 +27,7 @@ static long number(const char *name) {
 }
 
 static int fails(struct kind *kind) {
-    return is_ready && ++kind->count == kind->fails;
+    return is_ready && __atomic_add_fetch(&kind->count, 1, __ATOMIC_SEQ_CST) == kind->fails;
 }
 
 __attribute__((constructor)) static void begin(void) {

@@ -1,6 +1,6 @@
 #!/usr/bin/env python3
 """Runs in which memory is refused, or in which reads and writes fail, come short or are interrupted: each allocation, each read
-and each write of the stored run in turn. `./check` calls it.
+and each write of the stored run in turn, and each allocation of its script by threads. `./check` calls it.
 
     python3 tools/faults.py
 
@@ -23,6 +23,7 @@ STORED = TOP / "crates" / "nvmecp"
 WORDS = (STORED / "args").read_text(encoding="utf-8").split()
 SCRIPT = (STORED / "stdin").read_bytes()
 TEXT = (STORED / "stdout").read_bytes()
+THREADS = ["serve", "4"]
 PATIENCE = 120
 NO_MEMORY, READ_FAULT, WRITE_FAULT = 5, 3, 4
 
@@ -86,18 +87,20 @@ def check_faults(note):
             print("not tried: refused memory and failing reads and writes, since there is no C compiler", flush=True)
             return
         allocations, reads, writes = faults.counts(WORDS)
+        by_threads, _, _ = faults.counts(THREADS)
 
-        def each(count, setting, judge):
-            tries = pool.map(lambda number: (number, judge(faults.run(WORDS, **{setting: str(number)}))), range(1, count + 1))
+        def each(words, count, setting, judge):
+            tries = pool.map(lambda number: (number, judge(faults.run(words, **{setting: str(number)}))), range(1, count + 1))
             return "; ".join(f"at {number}: {wrong}" for number, wrong in tries if wrong)[:400] or None
 
-        for what, count, setting, judge in (
-            ("allocation", allocations, "FAIL_ALLOCATION", without_memory),
-            ("read", reads, "FAIL_READ", with_read_fault),
-            ("write", writes, "FAIL_WRITE", with_write_fault),
+        for run, words, what, count, setting, judge in (
+            ("the stored run", WORDS, "allocation", allocations, "FAIL_ALLOCATION", without_memory),
+            ("the stored run", WORDS, "read", reads, "FAIL_READ", with_read_fault),
+            ("the stored run", WORDS, "write", writes, "FAIL_WRITE", with_write_fault),
+            ("its script by threads", THREADS, "allocation", by_threads, "FAIL_ALLOCATION", without_memory),
         ):
-            wrong = each(count, setting, judge) if count else "there is none"
-            note(f"the stored run, each {what} fails in turn ({count})", wrong)
+            wrong = each(words, count, setting, judge) if count else "there is none"
+            note(f"{run}, each {what} fails in turn ({count})", wrong)
         for what, settings in (
             ("each read and write moves one byte", {"SHORT_IO": "1"}),
             ("each read and write is interrupted a hundred times", {"INTERRUPTED": "100"}),

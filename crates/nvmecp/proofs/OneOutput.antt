@@ -134,7 +134,7 @@ disassembled_or_told input one other a (BadCode code read short bad is) =
 planned_or_told : (workers choices : ℕ) (input one other : List ℕ) → IsHistory workers choices input one → TellsScript input other → ⊥
 planned_or_told workers choices input one other a (Faulty fault is told) = not_both fault (first_fault input) a.faultless is
 planned_or_told workers choices input one other a (Unplanned script breach none read planned told) =
-    plan_or_fault a.script script a.print.plan breach (same_lines a.script script input a.read read) a.print.planned planned
+    plan_or_fault a.script script a.print.plan breach (same_lines a.script script input a.read read) a.print.print.planned planned
 
 -- a result that is there
 the_plan : {A : Type 0} (r : Result A PlanFault) → IsOk r → (x : A) × (r ≡ Ok x)
@@ -180,12 +180,12 @@ same_plans : (script : Script) (plan other : List Phase) → plan_of script ≡ 
 same_plans script plan other is is' = ap (ok_or plan) (sym is ∙ is')
 
 pub one_history : (script : Script) (text : List ℕ) (workers choices others more : ℕ) (one : IsPrintOf script workers choices text)
-    (other : IsPrintOf script others more text) → one.tells.history ≡ other.tells.history
+    (other : IsPrintOf script others more text) → one.print.tells.history ≡ other.print.tells.history
 one_history script text workers choices others more one other =
     let c : Configuration = script.config in
-    let same : one.plan ≡ other.plan = same_plans script one.plan other.plan one.planned other.planned in
-    let legal : IsLegal c one.plan other.tells.history = subst (λ (plan : List Phase). IsLegal c plan other.tells.history) (sym same) other.tells.legal in
-    one-history c one.plan script.shows one.tells.history other.tells.history one.tells.legal legal one.sized other.sized (sym one.printed ∙ other.printed)
+    let same : one.plan ≡ other.plan = same_plans script one.plan other.plan one.print.planned other.print.planned in
+    let legal : IsLegal c one.plan other.print.tells.history = subst (λ (plan : List Phase). IsLegal c plan other.print.tells.history) (sym same) other.print.tells.legal in
+    one-history c one.plan script.shows one.print.tells.history other.print.tells.history one.print.tells.legal legal one.print.sized other.print.sized (sym one.print.printed ∙ other.print.printed)
 
 -- ---- workers and choices select one text
 
@@ -193,11 +193,11 @@ pub one_schedule : (script : Script) (workers choices : ℕ) (text second : List
     (other : IsPrintOf script workers choices second) → AllByRecursion HasMemory one.trail → AllByRecursion HasMemory other.trail → text ≡ second
 one_schedule script workers choices text second one other memory memory' =
     let c : Configuration = script.config in
-    let plans : one.plan ≡ other.plan = same_plans script one.plan other.plan one.planned other.planned in
+    let plans : one.plan ≡ other.plan = same_plans script one.plan other.plan one.print.planned other.print.planned in
     let runs : IsScheduled c (plain_phases one.plan) workers choices other.trail =
     subst (λ (plan : List Phase). IsScheduled c (plain_phases plan) workers choices other.trail) (sym plans) other.scheduled in
     let trails : one.trail ≡ other.trail = settled c workers (first_world c) (plain_phases one.plan) choices one.trail other.trail one.scheduled runs memory memory' in
     let text_after : Trail → List ℕ =
     λ trail. concat (ended_lines 1 (world_of c trail).history) ++ concat (shown_lines (world_of c trail).state.contents script.shows) in
-    one.printed ∙ printed_of c script.shows one.plan (world_of c one.trail) one.tells ∙ ap text_after trails
-    ∙ sym (printed_of c script.shows other.plan (world_of c other.trail) other.tells) ∙ sym other.printed
+    one.print.printed ∙ printed_of c script.shows one.plan (world_of c one.trail) one.print.tells ∙ ap text_after trails
+    ∙ sym (printed_of c script.shows other.plan (world_of c other.trail) other.print.tells) ∙ sym other.print.printed

@@ -1,25 +1,25 @@
--- A plan that was carried out by its schedule, and what is printed of it. This project's own.
-use Rattle.std.specs.Prelude.{◌≡◌, ℕ, List, ◌++◌}
+-- A plan that was carried out, and what is printed of it. This project's own.
+use Rattle.std.specs.Prelude.{◌≡◌, ℕ, List, ◌++◌, length}
 use Rattle.std.specs.List.{concat}
 use Rattle.cp_base.specs.Configuration.{Configuration}
 use Rattle.cp_base.specs.declared.limits.TheConstants.{MAX_TRANSFER}
 use Rattle.script_cmds.specs.declared.item.Phase.{Phase}
 use Rattle.script_cmds.specs.declared.item.Show.{Show}
-use Rattle.history_model.specs.Plain.{plain_phases}
+use Rattle.history_model.specs.Sent.{sends_of}
 use Rattle.replay_print.specs.declared.laws.TheConstants.{LONGEST_LINE}
+use Rattle.trail_model.specs.Lawful.{IsLawful}
 use Rattle.device_core.specs.Gives.{world_in}
 use Rattle.device_core.specs.Recorded.{Recorded}
-use Rattle.schedule_model.specs.Schedule.{IsScheduled}
 use Rattle.schedule_model.specs.Told.{TellsPlan}
 use Rattle.nvmecp.specs.Lines.{ended_lines, shown_lines}
 use Rattle.nvmecp.specs.Shown.{HasRoom}
-use Rattle.nvmecp.specs.declared.scheduled.Finished.{Finished}
+use Rattle.nvmecp.specs.declared.finished.Finished.{Finished}
 
--- The device has followed the schedule of these phases to its end, which tells them; there is room for each line, and for
--- the bytes of each show.
-pub record IsFinished (c : Configuration) (phases : List Phase) (workers choices : ℕ) (f : Finished) : Type 0 where
+-- The device has carried out these phases by lawful events, and tells them; there is room for each line, and for the bytes
+-- of each show.
+pub record IsFinished (c : Configuration) (phases : List Phase) (f : Finished) : Type 0 where
   pub config : f.core.config ≡ c
-  pub scheduled : IsScheduled c (plain_phases phases) workers choices f.core.trail
+  pub lawful : IsLawful c (length (sends_of phases)) f.core.trail
   pub told : TellsPlan c phases (world_in f.core)
   pub line : HasRoom LONGEST_LINE f.line
   pub shown : HasRoom MAX_TRANSFER f.shown

@@ -6,8 +6,10 @@ pub mod Ends
 pub mod Finished
 pub mod Lines
 pub mod Make
+pub mod Planned
 pub mod Refusal
 pub mod Run
+pub mod Serve
 pub mod Shown
 pub mod Step
 pub mod Summed

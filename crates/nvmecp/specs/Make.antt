@@ -15,7 +15,7 @@ load_workers = 4
 pub record SumsUp (script : Script) (choices : ℕ) (text : List ℕ) : Type 0 where
   pub history : List ℕ
   pub print : IsPrintOf script load_workers choices history
-  pub summed : text ≡ summary_text print.tells.history
+  pub summed : text ≡ summary_text print.print.tells.history
 
 -- The text is the summary of a load: its text is that of a script, and the seed chooses the history.
 pub record IsSummary (load : Load) (text : List ℕ) : Type 0 where

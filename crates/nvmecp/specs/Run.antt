@@ -1,13 +1,14 @@
 -- What a run of the program has read and written, by its status. What a source has left and has given and
 -- what a sink holds are passed as functions of them. This project's own.
-use Rattle.std.specs.Prelude.{◌≡◌, ℕ, ◌≤◌, ◌⊎◌, List, Option, Some, None, IfSome, length}
+use Rattle.std.specs.Prelude.{◌≡◌, ℕ, ◌≤◌, ◌⊎◌, List, Option, Some, None, IfSome, IsSome, length}
 use Rattle.std.specs.Io.KnownBytes.{IsAtEnd}
 use Rattle.cp_io.specs.Counting.{Rose}
 use Rattle.cp_io.specs.Source.{Gave}
 use Rattle.nvmecp.specs.Ends.{Writes, WritesFront}
 use Rattle.nvmecp.specs.Make.{IsSummary}
 use Rattle.nvmecp.specs.Task.{Task, IsDue, IsRefusal}
-use Rattle.nvmecp.specs.Words.{asked_of, errand_of, load_of, task_of}
+use Rattle.nvmecp.specs.Serve.{serve_task}
+use Rattle.nvmecp.specs.Words.{asked_of, errand_of, load_of, task_of, workers_of_words}
 use Rattle.nvmecp.specs.declared.words.Asked.{Asked}
 use Rattle.nvmecp.specs.declared.words.Load.{Load}
 
@@ -80,3 +81,22 @@ pub record Ran {S K : Type 0} (words : List (List ℕ)) (left : S → Option (Li
       → (task_of asked).Rejects input → NoFault source_faults sink_faults source source' sink sink' → (status ≡ 2) ⊎ (status ≡ 5)
   pub belied : (asked : Asked) (input : List ℕ) → asked_of words ≡ Some asked → left source ≡ Some input → length input ≤ (task_of asked).limit
       → (task_of asked).Belies input → NoFault source_faults sink_faults source source' sink sink' → (status ≡ 6) ⊎ (status ≡ 5)
+
+-- What the process says of its words where the first one is `serve`, by its status. Where there is no memory for the
+-- words, the status is 5. All else is as the clauses of `serve`.
+pub record Served {S K : Type 0} (words : List (List ℕ)) (left : S → Option (List ℕ)) (given : S → ℕ) (source_faults : S → ℕ) (held : K → Option (List ℕ)) (sink_faults : K → ℕ)
+    (source source' : S) (sink sink' : K) (status : ℕ) : Type 0 where
+  pub usage : status ≡ 1 → workers_of_words words ≡ None
+  pub wrong : workers_of_words words ≡ None → (status ≡ 1) ⊎ (status ≡ 5)
+  pub untouched : status ≡ 1 → (source' ≡ source) × (sink' ≡ sink)
+  pub done : status ≡ 0 → Done serve_task left given held source source' sink sink'
+  pub refused : status ≡ 2 → IsRefused serve_task left given held source source' sink sink'
+  pub read_fault : status ≡ 3 → Rose (source_faults source) (source_faults source')
+  pub write_fault : status ≡ 4 → Rose (sink_faults sink) (sink_faults sink')
+  pub cut_short : status ≡ 4 → IsCutShort serve_task left given held source source' sink sink'
+  pub unwritten : (status ≡ 3) ⊎ (status ≡ 5) → sink' ≡ sink
+  pub statuses : status ≤ 5
+  pub accepted : (input : List ℕ) → IsSome (workers_of_words words) → left source ≡ Some input → length input ≤ serve_task.limit
+      → serve_task.Accepts input → NoFault source_faults sink_faults source source' sink sink' → (status ≡ 0) ⊎ (status ≡ 5)
+  pub rejected : (input : List ℕ) → IsSome (workers_of_words words) → left source ≡ Some input → length input ≤ serve_task.limit
+      → serve_task.Rejects input → NoFault source_faults sink_faults source source' sink sink' → (status ≡ 2) ⊎ (status ≡ 5)

@@ -33,17 +33,22 @@ pub record HasPlan (input : List ℕ) : Type 0 where
 abbrev pub HasNoPlan : List ℕ → Type 0
 HasNoPlan input = (first_fault input ≡ None → ⊥) ⊎ ((script : Script) → IsTextOf script input → IsErr (plan_of script))
 
--- The text is that of the history of the schedule that a number of workers and a number that chooses select: a trail of that
--- schedule tells a history that is legal for the plan of the script, with no command outstanding, no claim open and each
--- byte at home at its end. The history's numbers have 64 bits, and what was read are bytes: so the text tells the history.
-pub record IsPrintOf (script : Script) (workers choices : ℕ) (text : List ℕ) : Type 0 where
-  pub plan : List Phase
+-- The text is that of the history that a trail tells of a plan of a script: a history that is legal for the plan, with no
+-- command outstanding, no claim open and each byte at home at its end. The history's numbers have 64 bits, and what was
+-- read are bytes: so the text tells the history.
+pub record IsPrintOfTrail (script : Script) (plan : List Phase) (trail : Trail) (text : List ℕ) : Type 0 where
   pub planned : plan_of script ≡ Ok plan
-  pub trail : Trail
-  pub scheduled : IsScheduled script.config (plain_phases plan) workers choices trail
   pub tells : TellsPlan script.config plan (world_of script.config trail)
   pub sized : All IsSizedEntry tells.history
   pub printed : text ≡ history_text script.config script.shows tells.history
+
+-- The text is that of the history of the schedule that a number of workers and a number that chooses select: a trail of
+-- that schedule tells it.
+pub record IsPrintOf (script : Script) (workers choices : ℕ) (text : List ℕ) : Type 0 where
+  pub plan : List Phase
+  pub trail : Trail
+  pub scheduled : IsScheduled script.config (plain_phases plan) workers choices trail
+  pub print : IsPrintOfTrail script plan trail text
 
 -- The input is a script, and the text is that of the history of the schedule that is selected.
 pub record IsHistory (workers choices : ℕ) (input : List ℕ) (text : List ℕ) : Type 0 where

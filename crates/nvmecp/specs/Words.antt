@@ -1,5 +1,6 @@
 -- The words of the command line. This project's own.
-use Rattle.std.specs.Prelude.{ℕ, ◌≤◌, List, Option, Some, None, option_and_then}
+use Rattle.std.specs.Prelude.{ℕ, ◌≤◌, Bool, false, List, [], ◌∷◌, Option, Some, None, codes, option_and_then}
+use Rattle.std.specs.Str.{bytes_eq}
 use Rattle.cp_base.specs.declared.limits.TheConstants.{MAX_HOSTS}
 use Rattle.cp_line.specs.Orders.{order_of}
 use Rattle.cp_line.specs.declared.limits.TheConstants.{MAX_MADE}
@@ -17,7 +18,7 @@ use Rattle.nvmecp.specs.declared.words.Errand.{Errand}
 use Rattle.nvmecp.specs.declared.words.Errand.TheVariants as errand
 use Rattle.nvmecp.specs.declared.words.Load.{Load}
 
--- what this version of the program does on an order; None for orders that it does not carry out
+-- what `run` does on an order; None for threads, which are of `serve`
 abbrev pub errand_by : Order → Option Errand
 errand_by (order.Step workers choices) = Some (errand.Answer (asked.Step workers choices))
 errand_by (order.Serve workers) = None
@@ -27,7 +28,7 @@ errand_by order.Dis = Some (errand.Answer asked.Dis)
 errand_by order.Upgrade = Some (errand.Answer asked.Upgrade)
 errand_by order.Check = Some (errand.Answer asked.Check)
 
--- what is done on words; None where they are no order, or one that this version does not carry out
+-- what `run` does on words; None where they are no order, or one for threads
 abbrev pub errand_of : List (List ℕ) → Option Errand
 errand_of words = option_and_then errand_by (order_of words)
 
@@ -48,6 +49,29 @@ asked_of words = option_and_then asked_in (errand_of words)
 -- the load that the words ask for; None where they are wrong, or want an input
 abbrev pub load_of : List (List ℕ) → Option Load
 load_of words = option_and_then load_in (errand_of words)
+
+-- the workers of an order for threads
+abbrev pub workers_in : Order → Option ℕ
+workers_in (order.Step workers choices) = None
+workers_in (order.Serve workers) = Some workers
+workers_in (order.Make seed commands) = None
+workers_in order.Asm = None
+workers_in order.Dis = None
+workers_in order.Upgrade = None
+workers_in order.Check = None
+
+-- the workers that words ask for, which are an order for threads; None for all other words
+abbrev pub workers_of_words : List (List ℕ) → Option ℕ
+workers_of_words words = option_and_then workers_in (order_of words)
+
+-- workers that words ask for are 1 to 16
+abbrev pub AreInRange : ℕ → Type 0
+AreInRange workers = (1 ≤ workers) × (workers ≤ MAX_HOSTS)
+
+-- whether the first word is that of threads
+abbrev pub begins_with_serve : List (List ℕ) → Bool
+begins_with_serve [] = false
+begins_with_serve (word ∷ words) = bytes_eq word (codes "serve")
 
 -- workers that are asked for are 1 to 16
 abbrev pub HasWorkers : Asked → Type 0

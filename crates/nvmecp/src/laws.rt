@@ -23,7 +23,7 @@ pub fn one_output()
         → (task_of asked).Answers input one → IsRefusal (task_of asked) input other → ⊥ }
     ensures one_history { (script : _) (text : List ℕ) (workers choices others more : ℕ)
         → (one : IsPrintOf script workers choices text) → (other : IsPrintOf script others more text)
-        → one.tells.history ≡ other.tells.history }
+        → one.print.tells.history ≡ other.print.tells.history }
     ensures one_schedule { (script : _) (workers choices : ℕ) (text second : List ℕ)
         → (one : IsPrintOf script workers choices text) → (other : IsPrintOf script workers choices second)
         → AllByRecursion HasMemory one.trail → AllByRecursion HasMemory other.trail → text ≡ second }

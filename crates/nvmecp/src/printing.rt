@@ -15,7 +15,7 @@ ghost use Rattle.nvmecp.specs.Lines.{ended_line, ended_lines, shown_lines};
 ghost use Rattle.nvmecp.specs.Shown.{AreInside, AreShort, HasRoom, IsAtHome};
 
 use crate::ending::Ending;
-use crate::scheduled::Finished;
+use crate::finished::Finished;
 use cp_base::{Bytes, MAX_TRANSFER};
 use cp_io::{Sink, WriteFault, write_all};
 use device_core::{Core, EntryRef};

@@ -1,24 +1,17 @@
-// A plan that was carried out by its schedule, and the memory that printing takes.
+// A plan that is carried out by its schedule.
 ghost use Rattle.std.specs.Prelude.{◌≡◌, ◌≤◌, All, IfOk, length};
 ghost use Rattle.cp_base.specs.declared.limits.TheConstants.{MAX_COMMANDS, MAX_HOSTS};
+ghost use Rattle.history_model.specs.Plain.{plain_phases};
 ghost use Rattle.history_model.specs.Rules.{KeepsRules};
 ghost use Rattle.history_model.specs.Sent.{sends_of};
+ghost use Rattle.schedule_model.specs.Schedule.{IsScheduled};
 ghost use Rattle.nvmecp.specs.Finished.{IsFinished};
 
-use cp_base::{Bytes, Config, MAX_TRANSFER, NoMemory};
-use device_core::Core;
-use replay_print::LONGEST_LINE;
+use crate::finished::{Finished, line_buffer, show_buffer};
+use cp_base::{Config, NoMemory};
 use script_plan::Plan;
 use std::alloc::Global;
 use step_driver::run_steps;
-
-/// A device that carried out all commands of a plan, and the buffers for a line and for the bytes of a show.
-#[derive(Drop)]
-pub struct Finished {
-    pub core: Core,
-    pub line: Bytes,
-    pub shown: Bytes,
-}
 
 /// Carries out a plan by the schedule of so many workers that the choices select. All memory is taken here, that of
 /// the buffers too.
@@ -33,12 +26,11 @@ pub fn finish(
     requires commands { plan.commands ≡ length (sends_of plan.phases) }
     requires limited { plan.commands ≤ MAX_COMMANDS }
     requires rules { All (KeepsRules config.now.depth) plan.phases }
-    ensures { IfOk result (λ finished. IsFinished config.now plan.phases workers choices finished) }
+    ensures finished { IfOk result (IsFinished config.now plan.phases) }
+    ensures scheduled { IfOk result (λ finished. IsScheduled config.now (plain_phases plan.phases) workers choices finished.core.trail) }
 {
-    let mut line = Bytes::new(alloc);
-    line.reserve(LONGEST_LINE)?;
-    let mut shown = Bytes::new(alloc);
-    shown.reserve(MAX_TRANSFER)?;
+    let line = line_buffer(alloc)?;
+    let shown = show_buffer(alloc)?;
     let core = run_steps(alloc, config, plan, workers, choices)?;
     Ok(Finished { core, line, shown })
 }

@@ -1,7 +1,9 @@
 // Worked runs: what no clause says, and that a run succeeds where there is memory.
 ghost use Rattle.std.specs.Prelude.{Some};
 
+mod hostile;
 mod programs;
+mod threads;
 mod traces;
 
 use crate::run::run;

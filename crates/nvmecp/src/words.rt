@@ -80,7 +80,7 @@ impl Asked {
     }
 }
 
-// What this version of the program does on an order. `None` for threads, which are not built yet.
+// What `run` does on an order. `None` for threads, which are of `serve`.
 fn errand_by(order: Order) -> Option<Errand>
     requires { IsInTable order }
     ensures errand { result ≡ errand_by order }
@@ -99,7 +99,7 @@ fn errand_by(order: Order) -> Option<Errand>
     }
 }
 
-/// What is done on words. `None` where the program does nothing on them.
+/// What `run` does on words. `None` where they are no order, or one for threads.
 pub fn read_words(words: &[String]) -> Option<Errand>
     ensures errand { result ≡ errand_of (map string_bytes words.now) }
     ensures range { IfSome result IsInRange }

@@ -7,8 +7,6 @@ mod hosts;
 mod phases;
 mod plans;
 mod serving;
-#[cfg(test)]
-mod tests;
 
 pub use gates::{Gate, NoGate};
 pub use hosts::host_loop;

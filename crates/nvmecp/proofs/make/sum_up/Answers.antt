@@ -12,4 +12,4 @@ returns c =
     let items : c.push_summary.new.out.items ≡ lines = c.in-Ok.ensures.pushed.items ∙ ap (λ (front : List ℕ). front ++ lines) c.clear.ensures.items in
     subst (λ (text : List ℕ). SumsUp c.args.script.now c.args.choices text) (sym items)
     (sums_up_of c.args.script.now c.args.plan.phases c.args.choices c.in_ok-finished.finished summary c.requires.sized c.requires.kept c.requires.planned
-    c.requires.given c.in_ok-finished.ensures c.summary_of-summary.ensures)
+    c.requires.given c.in_ok-finished.ensures.finished c.in_ok-finished.ensures.scheduled c.summary_of-summary.ensures)

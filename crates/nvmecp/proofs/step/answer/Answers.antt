@@ -1,36 +1,20 @@
-use Rattle.std.proofs.Common.{◌≡◌, Err, ap, subst}
-use Rattle.script_cmds.specs.Ends.{Tells}
-use Rattle.script_cmds.specs.Fault.{first_fault}
-use Rattle.script_cmds.specs.declared.fault.ParseEnd.{ParseEnd}
-use Rattle.script_cmds.specs.declared.fault.ScriptFault.{ScriptFault}
-use Rattle.history_model.specs.Plan.{PlanFault, plan_of}
-use Rattle.script_plan.specs.Cause.{ForFault, told}
-use Rattle.script_plan.specs.declared.answer.PlanEnd.{PlanEnd}
-use Rattle.nvmecp.specs.Refusal.{refusal_line}
-use Rattle.nvmecp.specs.Step.{Faulty, IsHistory, TellsScript, Unplanned}
-use Rattle.nvmecp.proofs.Endings.{refused}
-use Rattle.nvmecp.proofs.Printed.{few_commands}
+use Rattle.std.proofs.Common.{ℕ, List, subst}
+use Rattle.nvmecp.specs.Ends.{EndsBy}
+use Rattle.nvmecp.specs.Step.{IsHistory, IsPrintOf, TellsScript}
+use Rattle.nvmecp.proofs.Endings.{answered, weaker}
 use Rattle.nvmecp.proofs.step.answer.Goals as goal
 
-pub returns-in-Err-Fault-clause-ends : goal.returns-in-Err-Fault-clause-ends
-returns-in-Err-Fault-clause-ends g c =
+pub returns-in-Ok-clause-ends : goal.returns-in-Ok-clause-ends
+returns-in-Ok-clause-ends g c =
     let input = c.args.input.now.items in
-    let fault : ScriptFault = c.in-Err-Fault.fault in
-    refused (IsHistory c.args.workers c.args.choices input) (TellsScript input) (refusal_line fault.line c.cause_name.result.now) g.K.Sink.held g.K.Sink.faults c.args.sink.now c.refuse_line.new.sink c.refuse_line.result
-    (Faulty fault (subst (λ (end : ParseEnd). Tells end (first_fault input)) c.in-Err-Fault.field-0-is c.in-Err-Fault.ensures.fault) (ap (refusal_line fault.line) c.cause_name.ensures))
-    c.refuse_line.ensures
+    let read = c.in-Ok.ensures in
+    let Answers : List ℕ → Type 0 = IsHistory c.args.workers c.args.choices input in
+    answered (IsPrintOf c.in-Ok.script c.args.workers c.args.choices) Answers (TellsScript input) g.K.Sink.held g.K.Sink.faults c.args.sink.now c.carry_out.new.sink c.carry_out.result
+    (λ text print. record { faultless = read.faultless; script = c.in-Ok.script; read = read.text; print = print })
+    (subst (λ sink. EndsBy (IsPrintOf c.in-Ok.script c.args.workers c.args.choices) (λ told. ⊥) g.K.Sink.held g.K.Sink.faults sink c.carry_out.new.sink c.carry_out.result) read.unwritten c.carry_out.ensures.ends)
 
-pub returns-in-Err-Fault-plan-clause-ends : goal.returns-in-Err-Fault-plan-clause-ends
-returns-in-Err-Fault-plan-clause-ends g c =
+pub returns-in-Err-clause-ends : goal.returns-in-Err-clause-ends
+returns-in-Err-clause-ends g c =
     let input = c.args.input.now.items in
-    let fault : PlanFault = told c.in-Err-Fault-plan.fault in
-    refused (IsHistory c.args.workers c.args.choices input) (TellsScript input) (refusal_line fault.line c.breach_name.result.now) g.K.Sink.held g.K.Sink.faults c.args.sink.now
-    c.refuse_line-in-Err-Fault-plan.new.sink c.refuse_line-in-Err-Fault-plan.result
-    (Unplanned c.in-Ok.script fault c.in-Ok.ensures.accepted (record { sized = c.in-Ok.ensures.sized; queues = c.in-Ok.ensures.queues; read = c.in-Ok.ensures.text })
-    (subst (λ (end : PlanEnd). ForFault end (λ f. plan_of c.in-Ok.script ≡ Err f)) c.in-Err-Fault-plan.field-0-is c.in-Err-Fault-plan.ensures.fault)
-    (ap (refusal_line fault.line) c.breach_name.ensures))
-    c.refuse_line-in-Err-Fault-plan.ensures
-
-pub carry_out-requires-clause-limited : goal.carry_out-requires-clause-limited
-carry_out-requires-clause-limited g c =
-    few_commands c.in-Ok.script c.in-Ok-plan.plan.phases c.in-Ok-plan.plan.commands c.in-Ok.ensures.order_and_limits c.in-Ok-plan.ensures.commands c.in-Ok-plan.ensures.sends
+    weaker (λ (answer : List ℕ). ⊥) (IsHistory c.args.workers c.args.choices input) (TellsScript input) (TellsScript input) g.K.Sink.held g.K.Sink.faults
+    c.args.sink.now c.planned_script.new.sink c.in-Err.ending (λ text none. absurd none) (λ text told. told) c.in-Err.ensures.ends
