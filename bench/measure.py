@@ -45,23 +45,23 @@ def run_once(words, data, keep, program=PROGRAM):
         return Run(seconds, usage.ru_utime, usage.ru_maxrss, child.returncode, sink.read() if keep else b"")
 
 
-def best_of(times, words, data, status, text=None, keep=True):
-    """The fastest of some runs, each of which has to end with this status and, where one is given, with
+def best_of(times, words, data, status, text=None, keep=True, program=PROGRAM):
+    """The fastest of some runs of a program, each of which has to end with this status and, where one is given, with
     this text."""
-    runs = [run_once(words, data, keep) for _ in range(times)]
+    runs = [run_once(words, data, keep, program) for _ in range(times)]
     for run in runs:
         if run.status != status or text not in (None, run.text):
             sys.exit(f"{' '.join(words)}: status {run.status}, {run.text[:80]!r}")
     return min(runs, key=lambda run: run.seconds)
 
 
-def best_in_turn(times, runs, status=0):
-    """The fastest run for each of these words and inputs, whose texts are not kept. They are run in turn, so that all meet
-    the machine alike."""
+def best_in_turn(times, runs, status=0, program=PROGRAM):
+    """The fastest run of a program for each of these words and inputs, whose texts are not kept. They are run in turn, so
+    that all meet the machine alike."""
     best = [None] * len(runs)
     for _ in range(times):
         for number, (words, data) in enumerate(runs):
-            run = best_of(1, words, data, status, keep=False)
+            run = best_of(1, words, data, status, keep=False, program=program)
             if best[number] is None or run.seconds < best[number].seconds:
                 best[number] = run
     return best

@@ -1,0 +1,60 @@
+#!/usr/bin/env python3
+"""Times the core of a device alone: crates/core_bench submits, claims, carries out, finishes and takes commands, with no
+script around it.
+
+    python3 bench/core.py
+
+From the fastest run of so many commands that of none is taken off, which in deep queues has filled them. Making a command
+is in all figures.
+"""
+
+from bytes import plain
+from measure import TOP, best_in_turn, build, doubled
+
+NAME = "core_bench"
+PROGRAM = TOP / "out" / NAME
+TRIES = 15
+SMALL = ("one-place", "random", "ascending")
+DEEP = ("deep", "deep-on-one")
+MIB = 1 << 20
+SPANS = 1_000
+
+
+def fastest(runs):
+    """The fastest runs of these workloads, each of so many rounds."""
+    return best_in_turn(TRIES, [([workload, str(rounds)], b"") for workload, rounds in runs], program=PROGRAM)
+
+
+def table(workloads, counts):
+    """Times workloads over these counts, each the double of the one before."""
+    print("| commands | count | us each | ratio |\n|---|---|---|---|")
+    for workload in workloads:
+        empty, *runs = fastest([(workload, count) for count in (0, *counts)])
+        for count, _, seconds, ratio in doubled(zip(counts, runs), empty):
+            print(f"| `{workload}` | {count} | {seconds / count * 1e6:.3f} | {ratio} |")
+
+
+def spans():
+    """Times fills of 1 MiB that was claimed before, beside the same fills of a buffer alone and plain copies."""
+    runs = fastest([(workload, rounds) for workload in ("span", "fill-alone") for rounds in (1, 1 + SPANS)])
+    begun, whole, alone_begun, alone_whole = (run.seconds for run in runs)
+    span, alone, copy = (whole - begun) / SPANS, (alone_whole - alone_begun) / SPANS, plain(MIB, SPANS) / SPANS
+    print("| 1 MiB | us each |\n|---|---|")
+    print(f"| `span`: a fill by a command | {span * 1e6:.1f} |")
+    print(f"| `fill-alone`: the fill by itself | {alone * 1e6:.1f} |")
+    print(f"| what the command takes beside its fill | {(span - alone) * 1e6:.1f} |")
+    print(f"| a plain copy | {copy * 1e6:.1f} |")
+
+
+def main():
+    build(NAME)
+    table(SMALL, (1_000, 2_000, 4_000, 8_000, 16_000))
+    print("\nAims: at most 8 us each, a ratio of at most 2.2.\n")
+    table(DEEP, (4_096, 8_192, 16_384))
+    print("\nAims: at most 100 us each for `deep`; none for `deep-on-one`.\n")
+    spans()
+    print("\nAim: beside its fill a command takes far less than a copy, since a buffer that was claimed before is moved.")
+
+
+if __name__ == "__main__":
+    main()
