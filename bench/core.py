@@ -13,7 +13,7 @@ from measure import TOP, best_in_turn, build, doubled
 
 NAME = "core_bench"
 PROGRAM = TOP / "out" / NAME
-TRIES = 15
+TRIES = 25
 SMALL = ("one-place", "random", "ascending")
 DEEP = ("deep", "deep-on-one")
 MIB = 1 << 20
