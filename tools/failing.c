@@ -52,6 +52,14 @@ __attribute__((destructor)) static void end(void) {
     if (!real)                                                                                                                 \
         real = (__typeof__(name) *)dlsym(RTLD_NEXT, #name)
 
+// A program with threads may leave by this call, which runs no destructor.
+__attribute__((noreturn)) void _exit(int status) {
+    REAL(_exit);
+    end();
+    real(status);
+    __builtin_unreachable();
+}
+
 #define NO_MEMORY_OR(call)                                                                                                     \
     do {                                                                                                                       \
         if (!fails(&allocations))                                                                                              \
