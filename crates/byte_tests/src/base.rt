@@ -1,6 +1,7 @@
 // What no clause says: that calls succeed where there is memory, and the limits at their edges.
 use cp_base::{
-    ByteRange, Bytes, Config, CopySource, MAX_RUNS, MemRange, RangeList, SourceList, SpaceId, Spans,
+    ByteRange, Bytes, Config, CopySource, MAX_RUNS, MemRange, RangeList, SetRanges, SourceList,
+    SpaceId, Spans,
 };
 use std::alloc::Global;
 use std::test::Fail;
@@ -190,8 +191,18 @@ fn lists_have_one_to_sixteen_items(rt: HostRuntime) {
     let sources = [CopySource::default(); 17];
     let ranges = [MemRange::default(); 17];
     for (count, is_list) in [(0, false), (1, true), (16, true), (17, false)] {
-        let copies = SourceList::new(rt.alloc(), &sources[..count]);
-        assert_eq!(rt; copies.is_some(), is_list, "{count} sources");
+        let copies = SourceList::new(rt.alloc(), &sources[..count]).ok();
+        assert_eq!(rt;
+            copies.map(|list| list.is_some()),
+            Some(is_list),
+            "{count} sources"
+        );
+        let asked = SetRanges::new(rt.alloc(), &ranges[..count]).ok();
+        assert_eq!(rt;
+            asked.map(|list| list.is_some()),
+            Some(is_list),
+            "{count} ranges asked for"
+        );
         let set = RangeList::new(rt.alloc(), &ranges[..count]);
         assert_eq!(rt; set.is_some(), is_list, "{count} ranges");
     }

@@ -44,7 +44,7 @@ fn to_memory(
     at: u64,
     sources: &[CopySource],
 ) -> Option<Result<(u64, u64, usize), Status>> {
-    let from = SourceList::new(alloc, sources)?;
+    let from = SourceList::new(alloc, sources).ok()??;
     told(alloc, &Command::MemCopy { ns, at, from })
 }
 
@@ -55,7 +55,7 @@ fn to_blocks(
     lba: u64,
     sources: &[CopySource],
 ) -> Option<Result<(u64, u64, usize), Status>> {
-    let from = SourceList::new(alloc, sources)?;
+    let from = SourceList::new(alloc, sources).ok()??;
     told(alloc, &Command::NvmCopy { ns, lba, from })
 }
 

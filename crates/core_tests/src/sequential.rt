@@ -1,6 +1,6 @@
 // What no clause says: that calls succeed where there is memory, and worked examples.
 use cp_base::{
-    Access, Bytes, Command, Config, CopySource, MemRange, RangeList, SourceList, SpaceId, Status,
+    Access, Bytes, Command, Config, CopySource, MemRange, SetRanges, SourceList, SpaceId, Status,
 };
 use seq_device::SeqDevice;
 use std::alloc::Global;
@@ -91,7 +91,7 @@ fn copy(
             bytes,
         },
     );
-    let from = SourceList::new(alloc, sources)?;
+    let from = SourceList::new(alloc, sources).ok()??;
     let (status, _) = answer(&mut device, &Command::MemCopy { ns: 1, at, from });
     let space = SpaceId::Mem(1);
     Some((status, device.byte(space, 8), device.byte(space, 15)))
@@ -198,10 +198,10 @@ fn range(at: u64, len: u64) -> MemRange {
 fn command_of(alloc: Global, step: Step) -> Option<Command> {
     match step {
         Step::Create(range) => Some(Command::SetCreate {
-            ranges: RangeList::new(alloc, &[range])?,
+            ranges: SetRanges::new(alloc, &[range]).ok()??,
         }),
         Step::CreateOfTwo(first, second) => Some(Command::SetCreate {
-            ranges: RangeList::new(alloc, &[first, second])?,
+            ranges: SetRanges::new(alloc, &[first, second]).ok()??,
         }),
         Step::Delete(set) => Some(Command::SetDelete { set }),
         Step::Load(slot, size, at, piece) => Some(Command::Load {

@@ -2,7 +2,7 @@
 ghost use Rattle.std.specs.Prelude.{◌≡◌};
 ghost use Rattle.cp_base.specs.Words.{word_of};
 
-use crate::{Bytes, CommandWord, RangeList, SourceList};
+use crate::{Bytes, CommandWord, SetRanges, SourceList};
 
 /// A command, with its fields as the host gave them. Fields too large for the device are found when
 /// the command is carried out.
@@ -62,7 +62,7 @@ pub enum Command {
     },
     /// Make a set of memory ranges.
     SetCreate {
-        ranges: RangeList,
+        ranges: SetRanges,
     },
     /// Take a set of memory ranges away.
     SetDelete {

@@ -22,7 +22,7 @@ pub use limits::{
     MAX_BUDGET, MAX_COMMANDS, MAX_DEPTH, MAX_HOSTS, MAX_ITEMS, MAX_NAMESPACE, MAX_PROGRAM,
     MAX_RUNS, MAX_SETS, MAX_SPAN, MAX_TOTAL, MAX_TRANSFER, NAMESPACES, SLOTS, UNIT,
 };
-pub use lists::{Access, CopySource, MemRange, RangeList, SourceList};
+pub use lists::{Access, CopySource, MemRange, RangeList, SetRanges, SourceList};
 pub use no_memory::NoMemory;
 pub use region::{ByteRange, SpaceId};
 pub use replies::{Piece, Refusal, Reply, Status};

@@ -1,7 +1,8 @@
-// The sources of a copy and the ranges of a set, 1 to 16 of them, kept in place.
-ghost use Rattle.std.specs.Prelude.{◌≡◌, ℕ, ◌<◌, ◌≤◌, ◌↔◌, IsTrue, length, IsSome, IfSome};
+// The sources of a copy and the ranges of a set, 1 to 16 of them. A command keeps its list apart, so that it is small
+// itself; a set keeps its ranges in place, so that making it takes no memory.
+ghost use Rattle.std.specs.Prelude.{◌≡◌, ℕ, ◌<◌, ◌≤◌, ◌↔◌, IsTrue, length, IsSome, IfSome, IfOk};
 
-use crate::MAX_ITEMS;
+use crate::{MAX_ITEMS, NoMemory};
 use smallvec::SmallVec;
 use std::alloc::Global;
 use std::marker::Model;
@@ -56,7 +57,7 @@ pub struct MemRange {
 /// The sources of a copy in their order, 1 to 16 of them.
 #[derive(Debug, Drop)]
 pub struct SourceList {
-    sources: SmallVec<CopySource, MAX_ITEMS>,
+    sources: Vec<CopySource>,
 }
 
 impl Model for SourceList {
@@ -73,15 +74,15 @@ impl Model for SourceList {
 
 impl SourceList {
     /// These sources. `None` where there are none or more than 16.
-    pub fn new(alloc: Global, items: &[CopySource]) -> Option<SourceList>
-        ensures found { IsSome result ↔ ((0 < length items.now) × (length items.now ≤ MAX_ITEMS)) }
-        ensures value { IfSome result (λ l. l ≡ items.now) }
+    pub fn new(alloc: Global, items: &[CopySource]) -> Result<Option<SourceList>, NoMemory>
+        ensures found { IfOk result (λ list. IsSome list ↔ ((0 < length items.now) × (length items.now ≤ MAX_ITEMS))) }
+        ensures value { IfOk result (λ list. IfSome list (λ l. l ≡ items.now)) }
     {
         if !is_list(items.len()) {
-            return None;
+            return Ok(None);
         }
-        let sources = SmallVec::from_slice(alloc, items).unwrap();
-        Some(SourceList { sources })
+        let sources = Vec::from_slice(alloc, items)?;
+        Ok(Some(SourceList { sources }))
     }
 
     /// The sources in order.
@@ -94,7 +95,7 @@ impl SourceList {
     }
 }
 
-/// The ranges of a set in their order, 1 to 16 of them.
+/// The ranges of a set in their order, 1 to 16 of them, in place.
 #[derive(Debug, Drop)]
 pub struct RangeList {
     ranges: SmallVec<MemRange, MAX_ITEMS>,
@@ -132,5 +133,43 @@ impl RangeList {
         ensures few { length result.now ≤ MAX_ITEMS }
     {
         self.ranges.as_slice()
+    }
+}
+
+/// The ranges of a set that a command asks for.
+#[derive(Debug, Drop)]
+pub struct SetRanges {
+    ranges: Box<RangeList>,
+}
+
+impl Model for SetRanges {
+    ghost use Rattle.std.specs.Prelude.{List, box_value};
+    ghost use Rattle.cp_base.specs.declared.lists.MemRange.{MemRange};
+
+    ghost Value = { List MemRange };
+
+    ghost view = { λ s. box_value s.ranges };
+}
+
+impl SetRanges {
+    /// These ranges. `None` where there are none or more than 16.
+    pub fn new(alloc: Global, items: &[MemRange]) -> Result<Option<SetRanges>, NoMemory>
+        ensures found { IfOk result (λ ranges. IsSome ranges ↔ ((0 < length items.now) × (length items.now ≤ MAX_ITEMS))) }
+        ensures value { IfOk result (λ ranges. IfSome ranges (λ s. s ≡ items.now)) }
+    {
+        match RangeList::new(alloc, items) {
+            Some(list) => {
+                let ranges = Box::new(alloc, list)?;
+                Ok(Some(SetRanges { ranges }))
+            }
+            None => Ok(None),
+        }
+    }
+
+    /// The ranges as a list in place.
+    pub fn as_list(&self) -> &RangeList
+        ensures { result.now ≡ self.now }
+    {
+        &self.ranges
     }
 }

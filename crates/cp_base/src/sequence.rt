@@ -1,4 +1,4 @@
-// A vector that contracts see as the list of its items.
+// A vector whose meaning is its items alone.
 ghost use Rattle.std.specs.Prelude.{◌≡◌};
 
 use std::marker::Model;

@@ -52,7 +52,7 @@ fn with_run(alloc: Global, range: ByteRange, runs: &[ByteRange]) -> SmallVec<Byt
 
 impl Spans {
     #[tactic(auto, using(crate::proofs::Runs::few_runs))]
-    /// The runs of the bytes of these ranges. `None` exactly where there are more than 20 ranges.
+    /// The bytes that these ranges have together, as runs. More than 20 ranges are not taken: `None`.
     pub fn of(alloc: Global, ranges: &[ByteRange]) -> Option<Spans>
         ensures found { IsSome result ↔ (length ranges.now ≤ MAX_RUNS) }
         ensures value { IfSome result (λ spans. spans ≡ runs_of ranges.now) }

@@ -13,10 +13,10 @@ use std::marker::Model;
 /// How many bytes a sink in memory has room for.
 const ROOM: usize = 1_048_576;
 
-/// A sink in memory: what it holds, and the numbers of the calls that fail. It has room for
-/// 1,048,576 bytes; a write that no longer fits whole takes only as many bytes as fit. Calls are
-/// numbered from 1 over the object's life, and a call past number 2^32 - 1 is in no list. Its count
-/// of faults begins at 0 and rises by one at each listed call, and where nothing fits.
+/// A sink in memory: what it holds, and which of its calls fail, by their numbers: the first call is
+/// number 1, and one behind number 2^32 - 1 cannot be listed. It has room for 1,048,576 bytes, and of
+/// a write that is too long for what is left it takes the front. Its count of faults begins at 0 and
+/// rises by one at each listed call, and where nothing fits.
 #[derive(Debug, Drop)]
 pub struct MemSink {
     bytes: Bytes,

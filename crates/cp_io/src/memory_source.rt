@@ -9,9 +9,9 @@ use crate::{Got, Source};
 use cp_base::Bytes;
 use std::marker::Model;
 
-/// A source in memory: its bytes, the most bytes of one read, and the numbers of the calls that
-/// fail. Calls are numbered from 1 over the object's life, and a call past number 2^32 - 1 is in no
-/// list. Its count of faults begins at 0 and rises by one at each listed call.
+/// A source in memory: its bytes, how many of them one read gives at most, and which of its calls fail,
+/// by their numbers: the first call is number 1, and one behind number 2^32 - 1 cannot be listed. Its
+/// count of faults begins at 0 and rises by one at each listed call.
 #[derive(Debug, Drop)]
 pub struct MemSource {
     bytes: Bytes,

@@ -36,7 +36,7 @@ pub trait Sink {
 #[error("the sink failed")]
 pub struct WriteFault;
 
-/// Offers a text to a sink as one piece, and the rest of it again after each count that is shorter.
+/// Gives a text to a sink: all of it at first, and after each write that took less, what is left.
 pub fn write_all<K: Sink>(sink: &mut K, text: &[u8]) -> Result<(), WriteFault>
     ensures all { OnOk result (Appends (K.held sink.old) (K.held sink.new) text.now) }
     ensures front { OnErr result (AppendsFront (K.held sink.old) (K.held sink.new) text.now) }

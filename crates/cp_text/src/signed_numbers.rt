@@ -8,8 +8,8 @@ use crate::numbers::number;
 use crate::pieces::push_piece;
 use cp_base::{Bytes, NoMemory};
 
-/// The signed number that a text spells: a number of at most 9,223,372,036,854,775,807, or a minus
-/// and a number that is not 0 and at most 9,223,372,036,854,775,808. `None` where it spells none.
+/// The signed number of 64 bits that a text spells: a number, or a minus and a number that is not 0.
+/// `None` where it spells none, or one below -2^63 or above 2^63 - 1.
 pub fn signed(text: &[u8]) -> Option<i64>
     ensures { result ≡ signed_of text.now }
 {

@@ -83,7 +83,9 @@ pub(crate) fn change_tables(
         (tables_of slots.new sets.new) }
 {
     let answer = match command {
-        Command::SetCreate { ranges } => return create_set(alloc, config, slots, sets, ranges),
+        Command::SetCreate { ranges } => {
+            return create_set(alloc, config, slots, sets, ranges.as_list());
+        }
         Command::SetDelete { set } => return delete_set(alloc, config, slots, sets, *set),
         Command::Load {
             slot,

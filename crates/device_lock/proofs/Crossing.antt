@@ -14,7 +14,11 @@ use Rattle.bpf_decode.specs.contracts.decoder.Decoded as Decoded
 use Rattle.program_slots.specs.contracts.pieces.Pieces as Pieces
 use Rattle.program_slots.specs.contracts.program.Program as Program
 use Rattle.program_slots.specs.contracts.slots.Slots as Slots
+use Rattle.cp_base.specs.contracts.commands.Command as Command
 use Rattle.cp_base.specs.contracts.configuration.Config as Config
+use Rattle.cp_base.specs.contracts.lists.RangeList as RangeList
+use Rattle.cp_base.specs.contracts.lists.SetRanges as SetRanges
+use Rattle.cp_base.specs.contracts.lists.SourceList as SourceList
 use Rattle.range_sets.specs.contracts.sets.Sets as Sets
 use Rattle.queue_pairs.specs.contracts.queue.Queue as Queue
 use Rattle.device_core.specs.contracts.device.Core as Core
@@ -26,8 +30,32 @@ use Rattle.seat_lock.specs.declared.trailed.Trailed.{Ghosts}
 use Rattle.device_lock.specs.contracts.kept.Kept as Kept
 use Rattle.device_lock.specs.contracts.locked.Device as Device
 
+sources-send : IsSend SourceList.the_field.row
+sources-send = search (sendable, crosses) depth 400 fits 100000
+
+sources-sync : IsSync SourceList.the_field.row
+sources-sync = search (sendable, crosses) depth 400 fits 100000
+
+list-send : IsSend RangeList.the_row
+list-send = search (sendable, crosses) depth 400 fits 100000
+
+list-sync : IsSync RangeList.the_row
+list-sync = search (sendable, crosses) depth 400 fits 100000
+
+ranges-send : IsSend SetRanges.the_field.row
+ranges-send = let a = list-send in search (sendable, crosses) depth 400 fits 100000
+
+ranges-sync : IsSync SetRanges.the_field.row
+ranges-sync = let a = list-sync in search (sendable, crosses) depth 400 fits 100000
+
+pub command-send : IsSend Command.the_row
+command-send = let a = sources-send in let b = ranges-send in search (sendable, crosses) depth 400 fits 100000
+
+pub command-sync : IsSync Command.the_row
+command-sync = let a = sources-sync in let b = ranges-sync in search (sendable, crosses) depth 400 fits 100000
+
 event-send : IsSend KeptEvent.the_row
-event-send = search (sendable, crosses) depth 400 fits 100000
+event-send = let a = command-send in let b = command-sync in search (sendable, crosses) depth 400 fits 100000
 
 queue-send : IsSend Queue.the_row
 queue-send = search (sendable, crosses) depth 400 fits 100000

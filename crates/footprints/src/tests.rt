@@ -81,7 +81,7 @@ fn copied(
     first: CopySource,
     second: CopySource,
 ) -> Option<((usize, u64, u64), (usize, u64, u64))> {
-    let from = SourceList::new(alloc, &[first, second])?;
+    let from = SourceList::new(alloc, &[first, second]).ok()??;
     let (ns, lba, at) = (1, 2048, 1_048_576);
     if to_blocks {
         return told(alloc, &Command::NvmCopy { ns, lba, from });

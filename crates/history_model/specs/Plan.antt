@@ -1,6 +1,6 @@
 -- The plan of a script: its phases with the takes that the end of each host's part adds, or the first
--- line that breaks a rule of queues. This project's own; that a command identifier is unique among the
--- outstanding commands of its queue is NVMe's (Base Specification, submission queue entries).
+-- line that breaks a rule of queues. This project's own; that two outstanding commands of one queue have two
+-- identifiers is NVMe's (Base Specification, submission queue entries).
 use Rattle.std.specs.Prelude.{ℕ, ◌+◌, ◌==◌, nat_le, Bool, not, List, [], ◌∷◌, ◌++◌, Result, Ok, Err, if◌then◌else◌, length, map, filter, count_by}
 use Rattle.std.specs.List.{list_any}
 use Rattle.script_cmds.specs.declared.item.Item.{Item}

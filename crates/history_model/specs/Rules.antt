@@ -1,7 +1,6 @@
 -- What holds of every plan: the rules of queues, kept to the end of each part, and which hosts act. This
--- project's own; that
--- a command identifier is unique among the outstanding commands of its queue, and that a queue has a
--- depth, is NVMe's (Base Specification, submission queues).
+-- project's own, after two rules of NVMe (Base Specification, submission queues): two outstanding commands of
+-- one queue have two identifiers, and a queue has a depth.
 use Rattle.std.specs.Prelude.{◌≡◌, ℕ, ◌<◌, ◌≤◌, ◌==◌, not, List, [], ◌∷◌, ◌++◌, length, filter, All, Contains}
 use Rattle.cp_base.specs.declared.limits.TheConstants.{MAX_HOSTS}
 use Rattle.script_cmds.specs.Hosts.{AscendFrom, hosts_of}

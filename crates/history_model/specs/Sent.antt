@@ -9,8 +9,8 @@ use Rattle.script_cmds.specs.declared.item.Item.TheVariants as item
 use Rattle.script_cmds.specs.declared.item.HostPart.{HostPart}
 use Rattle.script_cmds.specs.declared.item.Phase.{Phase}
 
--- A command as it is sent. Its name is its host and its ordinal, which counts the host's sends from 1
--- over all phases. With it go its identifier, the number of its phase, the command, the ordinals of the
+-- A command as it is sent. Its name is its host and which of all that host's sends it is: the first, of whatever
+-- phase, has ordinal 1. With it go its identifier, the number of its phase, the command, the ordinals of the
 -- host's commands that the host has taken before it sends this one, and, for an Abort, the ordinal of the
 -- command that it names.
 pub record Sent : Type 0 where

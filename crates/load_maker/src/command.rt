@@ -63,7 +63,7 @@ fn kind_command(alloc: Global, kind: u64, place: u64, value: u8) -> Result<Comma
                     lba,
                     count: 1,
                 },
-            );
+            )?;
             Ok(Command::MemCopy { ns: 1, at, from })
         }
         6 => {
@@ -74,7 +74,7 @@ fn kind_command(alloc: Global, kind: u64, place: u64, value: u8) -> Result<Comma
                     at,
                     len: 512,
                 },
-            );
+            )?;
             Ok(Command::NvmCopy { ns: 1, lba, from })
         }
         _ => Ok(execution(1 + (place % 2) as u32)),
@@ -89,10 +89,10 @@ fn same_bytes(alloc: Global, count: u64, value: u8) -> Result<Bytes, NoMemory>
 }
 
 // A list of one source.
-fn one_source(alloc: Global, source: CopySource) -> SourceList
-    ensures { result ≡ source ∷ [] }
+fn one_source(alloc: Global, source: CopySource) -> Result<SourceList, NoMemory>
+    ensures { IfOk result (λ list. list ≡ source ∷ []) }
 {
-    SourceList::new(alloc, &[source]).unwrap()
+    Ok(SourceList::new(alloc, &[source])?.unwrap())
 }
 
 // An execution of the load's program on a set.

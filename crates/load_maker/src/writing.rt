@@ -10,7 +10,7 @@ ghost use Rattle.load_maker.specs.Load.{device_lines, done_lines, first_set, hos
 ghost use Rattle.load_maker.specs.Made.{PrintsLines};
 
 use crate::command::command_of;
-use cp_base::{Access, Bytes, Command, MemRange, NoMemory, RangeList};
+use cp_base::{Access, Bytes, Command, MemRange, NoMemory, SetRanges};
 use cp_line::MAX_MADE;
 use rand_core::SeedableRng;
 use rand_core::utils::NextWord;
@@ -25,7 +25,7 @@ const HOSTS: u32 = 4;
 // The identifiers of a host, and so the most of its commands that are outstanding.
 const IDENTIFIERS: u32 = 16;
 
-// The program of the load. It adds 1 to the first byte of range 0, and gives the byte's old value plus 1.
+// The program of the load. It counts the first byte of its first range up by one, and ends with the new number.
 const PROGRAM: [u8; 48] = [
     0x18, 0x01, 0, 0, 0, 0, 0, 0, // lddw r1 4294967296
     0, 0, 0, 0, 0x01, 0, 0, 0, //
@@ -118,7 +118,7 @@ fn push_set(alloc: Global, out: &mut Bytes, cid: u32, ranges: &[MemRange]) -> Re
     requires { (1 ≤ length ranges.now) × (length ranges.now ≤ 2) }
     ensures { OnOk result (PrintsLines (done_lines cid (command.SetCreate ranges.now)) out.old.items out.new.items) }
 {
-    let ranges = RangeList::new(alloc, ranges).unwrap();
+    let ranges = SetRanges::new(alloc, ranges)?.unwrap();
     push_done(out, cid, &Command::SetCreate { ranges })
 }
 

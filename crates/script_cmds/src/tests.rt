@@ -1,7 +1,7 @@
 // Texts that are no scripts, and one that is.
 use super::*;
 use cp_base::{
-    Access, ByteRange, Bytes, Command, Config, CopySource, MemRange, RangeList, Sequence,
+    Access, ByteRange, Bytes, Command, Config, CopySource, MemRange, Sequence, SetRanges,
     SourceList, SpaceId,
 };
 use script_line::{TextCause, Version};
@@ -247,13 +247,13 @@ fn add_commands(alloc: Global, items: &mut Vec<Item>) -> Result<(), Fail> {
         count: u64::MAX,
     };
     let sources = [blocks, CopySource::Mem { ns: 1, at: 5, len }];
-    let from = SourceList::new(alloc, &sources).ok_or("no list")?;
+    let from = SourceList::new(alloc, &sources)?.ok_or("no list")?;
     let bytes = Bytes::from_slice(alloc, &[0, 255])?;
     add(alloc, items, Command::NvmRead { ns, lba, count })?;
     add(alloc, items, Command::NvmWrite { ns, lba, bytes })?;
     add(alloc, items, Command::NvmZeroes { ns, lba, count })?;
     add(alloc, items, Command::NvmCopy { ns, lba, from })?;
-    let from = SourceList::new(alloc, &[blocks]).ok_or("no list")?;
+    let from = SourceList::new(alloc, &[blocks])?.ok_or("no list")?;
     let bytes = Bytes::new(alloc);
     let value = 255;
     add(alloc, items, Command::MemRead { ns, at, len })?;
@@ -275,7 +275,7 @@ fn add_programs(alloc: Global, items: &mut Vec<Item>) -> Result<(), Fail> {
         access: Access::ReadOnly,
         ..range
     };
-    let ranges = RangeList::new(alloc, &[range, constant]).ok_or("no list")?;
+    let ranges = SetRanges::new(alloc, &[range, constant])?.ok_or("no list")?;
     let bytes = Bytes::from_slice(alloc, &[149])?;
     add(alloc, items, Command::SetCreate { ranges })?;
     add(alloc, items, Command::SetDelete { set })?;

@@ -14,7 +14,7 @@ use crate::Version;
 use crate::field::{
     FieldValue, RangeText, SourceText, identifier_at, number_at, ranges_at, sources_at,
 };
-use cp_base::{Bytes, Command, CommandWord, CopySource, MemRange, NoMemory, RangeList, SourceList};
+use cp_base::{Bytes, Command, CommandWord, CopySource, MemRange, NoMemory, SetRanges, SourceList};
 use std::alloc::Global;
 
 /// The command of a send line of a script of this version, by its word and what its fields say, which keeps their
@@ -147,7 +147,7 @@ fn source_list(alloc: Global, sources: &[SourceText]) -> Result<SourceList, NoMe
     for source in sources {
         items.push(source_of(*source))?;
     }
-    Ok(SourceList::new(alloc, items.as_slice()).unwrap())
+    Ok(SourceList::new(alloc, items.as_slice())?.unwrap())
 }
 
 // A source, whose namespace has a number of 32 bits.
@@ -171,7 +171,7 @@ fn source_of(source: SourceText) -> CopySource
 
 // Ranges as a list.
 #[tactic(auto, using(crate::proofs::Elements::range_small, crate::proofs::Elements::few_ranges))]
-fn range_list(alloc: Global, ranges: &[RangeText]) -> Result<RangeList, NoMemory>
+fn range_list(alloc: Global, ranges: &[RangeText]) -> Result<SetRanges, NoMemory>
     requires some { 0 < length ranges.now }
     requires fits { ranges_fit (map range_view ranges.now) ≡ true }
     ensures { IfOk result (λ list. list ≡ map range_view ranges.now) }
@@ -180,7 +180,7 @@ fn range_list(alloc: Global, ranges: &[RangeText]) -> Result<RangeList, NoMemory
     for range in ranges {
         items.push(range_of(*range))?;
     }
-    Ok(RangeList::new(alloc, items.as_slice()).unwrap())
+    Ok(SetRanges::new(alloc, items.as_slice())?.unwrap())
 }
 
 // A range, whose namespace has a number of 32 bits.

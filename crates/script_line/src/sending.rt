@@ -35,7 +35,7 @@ pub fn push_send(
             push_fill(out, kind, id, *ns, [*at, *len], *value)
         }
         Command::MemCopy { ns, at, from } => push_copy(out, kind, id, *ns, *at, from),
-        Command::SetCreate { ranges } => push_line(out, kind, &[id, Covered(ranges)]),
+        Command::SetCreate { ranges } => push_line(out, kind, &[id, Covered(ranges.as_list())]),
         Command::SetDelete { set } => push_line(out, kind, &[id, small(*set)]),
         Command::Load {
             slot,

@@ -176,9 +176,9 @@ fn queue_depth(form: Form, depth: u32) -> u32
 }
 
 /// The plan of a script: each host's part with the takes that its end adds, in order of sending. The
-/// commands are shared with the script. Else the first line in file order that breaks a rule of queues.
+/// commands are shared with the script. Else the first line, from the top of the text, that breaks a rule of queues.
 ///
-/// A host's command is outstanding from its `send` to its `take`. A `send` needs fewer outstanding
+/// Between its `send` and its `take` a command is outstanding. A `send` needs fewer outstanding
 /// commands of its queue than the queue's depth, and then an identifier that none of the host's has; a `take`
 /// needs one of that identifier; a phase needs a host.
 pub fn plan(alloc: Global, script: &Script) -> Result<Plan, PlanEnd>

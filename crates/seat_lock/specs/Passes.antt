@@ -11,7 +11,7 @@ use Rattle.seat_lock.specs.declared.types.Turn.{Turn}
 use Rattle.seat_lock.specs.declared.types.Passes.{Passes}
 
 module _ {E : Type 0} where
-  -- the trail is the old one, or it and one entry of this party
+  -- this party adds one entry to the trail or none
   abbrev pub AddsAtMostOne : (E → ℕ) → ℕ → List E → List E → Type 0
   AddsAtMostOne party number old new = (new ≡ old) ⊎ ((e : E) × (new ≡ old ++ e ∷ []) × (party e ≡ number))
 
@@ -43,7 +43,7 @@ module _ {E F : Type 0} where
   abbrev pub made_by : Pass E F → List E
   made_by p = (view_of p).mine
 
-  -- the words that its lost tries for the turn read, in order
+  -- the word that each of its tries found which did not get the turn, in order
   abbrev pub lost_by : Pass E F → List ℕ
   lost_by p = (view_of p).lost
 

@@ -73,7 +73,7 @@ impl SeqDevice {
             Command::MemRead { ns, at, len } => self.read_memory(*ns, *at, *len),
             Command::MemWrite { ns, at, bytes } => self.write_memory(*ns, *at, bytes),
             Command::MemFill { ns, at, len, value } => self.fill_memory(*ns, *at, *len, *value),
-            Command::SetCreate { ranges } => self.create_set(ranges),
+            Command::SetCreate { ranges } => self.create_set(ranges.as_list()),
             Command::SetDelete { set } => self.delete_set(*set),
             Command::Load {
                 slot,

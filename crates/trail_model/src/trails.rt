@@ -41,8 +41,8 @@ pub fn histories_replay()
         → StateFits c (world_of c trail).state }
 {}
 
-/// What open claims hold. Each finds the device as it was when it was made; an execution finds its slot
-/// active with the same code, and its set with the same ranges; and no two of them meet.
+/// What open claims hold. Each finds the device as it was when it was made; for an execution that is the code of
+/// its slot, still active, and the ranges of its set; and no two of them meet.
 pub fn open_claims_hold()
     ensures found { (c : Configuration) (commands : ℕ) (trail : Trail) → IsLawful c commands trail
         → AllByRecursion (FindsItself c (world_of c trail).state) (world_of c trail).claims }

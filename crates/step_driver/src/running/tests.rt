@@ -1,7 +1,7 @@
 // Worked calls of the core, step by step: what each answers where works are held while other calls are made.
 use super::{Held, Running, none_by};
 use cp_base::{
-    Access, Bytes, Command, Config, MAX_COMMANDS, MAX_HOSTS, MemRange, RangeList, SpaceId, Status,
+    Access, Bytes, Command, Config, MAX_COMMANDS, MAX_HOSTS, MemRange, SetRanges, SpaceId, Status,
 };
 use device_core::{Core, Picked};
 use queue_pairs::{SendCause, TakeCause};
@@ -68,7 +68,7 @@ fn command(alloc: Global, asks: Asks) -> Option<Command> {
                 access,
             };
             Command::SetCreate {
-                ranges: RangeList::new(alloc, &[range])?,
+                ranges: SetRanges::new(alloc, &[range]).ok()??,
             }
         }
         Asks::DropSet(set) => Command::SetDelete { set },
