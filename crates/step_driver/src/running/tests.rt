@@ -21,7 +21,9 @@ enum Asks {
     DropSet(u32),
     // The program that ends with 7.
     Load,
+    Unload,
     Activate,
+    Deactivate,
     // The program of a slot on a set.
     Execute(u32, u32),
     Read(u64, u64),
@@ -53,7 +55,7 @@ enum Step {
     Pickable(u32),
     Byte(u64, Option<u8>),
     Ended(u32),
-    // The entry of a number: its host, its ordinal, and what it was told.
+    // The entry of a number: its host, its ordinal, and what it was told. Where that is not `Ok` it has no data.
     Entry(u32, u32, u32, Status, u64),
 }
 
@@ -78,7 +80,9 @@ fn command(alloc: Global, asks: Asks) -> Option<Command> {
             at: 0,
             bytes: Bytes::from_slice(alloc, &SEVEN).ok()?,
         },
+        Asks::Unload => Command::Unload { slot: 0 },
         Asks::Activate => Command::Activate { slot: 0 },
+        Asks::Deactivate => Command::Deactivate { slot: 0 },
         Asks::Execute(slot, set) => Command::Execute {
             slot,
             set,
@@ -164,6 +168,7 @@ fn tells(running: &Running, k: u32, host: u32, ordinal: u32, status: Status, num
                 && entry.ordinal == ordinal
                 && entry.reply.status == status
                 && entry.reply.result == number
+                && (status == Status::Ok || entry.reply.bytes.is_empty())
         }
         None => false,
     }
@@ -330,6 +335,137 @@ const WITHDRAWN: [Step; 8] = [
     Step::Take(1, 2, Ok(2)),
 ];
 
+// A load that is withdrawn puts nothing into its slot.
+const LOAD_WITHDRAWN: [Step; 9] = [
+    Step::Send(1, 1, Asks::Load, Ok(0)),
+    Step::Send(1, 2, Asks::Abort(1), Ok(1)),
+    Step::Send(1, 3, Asks::Activate, Ok(2)),
+    Step::Turn(17, 1, Turn::Did),
+    Step::Entry(0, 1, 2, Status::Ok, 0),
+    Step::Entry(1, 1, 1, Status::Aborted, 0),
+    Step::Turn(17, 0, Turn::Did),
+    Step::Entry(2, 1, 3, Status::SlotEmpty, 0),
+    Step::Take(1, 1, Ok(3)),
+];
+
+// Of a set whose making is withdrawn nothing is there, and its number is that of the next set.
+const SET_WITHDRAWN: [Step; 12] = [
+    Step::Send(1, 1, Asks::Set(0, Access::ReadOnly), Ok(0)),
+    Step::Send(1, 2, Asks::Abort(1), Ok(1)),
+    Step::Send(1, 3, Asks::DropSet(1), Ok(2)),
+    Step::Send(1, 4, Asks::Set(0, Access::ReadOnly), Ok(3)),
+    Step::Turn(17, 1, Turn::Did),
+    Step::Entry(0, 1, 2, Status::Ok, 0),
+    Step::Entry(1, 1, 1, Status::Aborted, 0),
+    Step::Turn(17, 0, Turn::Did),
+    Step::Entry(2, 1, 3, Status::NoSuchSet, 0),
+    Step::Turn(17, 0, Turn::Did),
+    Step::Entry(3, 1, 4, Status::Ok, 1),
+    Step::Take(1, 1, Ok(4)),
+];
+
+// A read that is withdrawn gives no data, and nobody can turn to it any more.
+const READ_WITHDRAWN: [Step; 10] = [
+    Step::Send(1, 1, Asks::Read(0, 4), Ok(0)),
+    Step::Send(1, 2, Asks::Abort(1), Ok(1)),
+    Step::Pickable(2),
+    Step::Turn(17, 1, Turn::Did),
+    Step::Entry(0, 1, 2, Status::Ok, 0),
+    Step::Entry(1, 1, 1, Status::Aborted, 0),
+    Step::Pickable(0),
+    Step::Turn(17, 0, Turn::Nothing),
+    Step::Ended(2),
+    Step::Take(1, 1, Ok(2)),
+];
+
+// A set whose deletion is withdrawn is still there, and can be deleted.
+const DELETION_WITHDRAWN: [Step; 12] = [
+    Step::Send(1, 1, Asks::Set(0, Access::ReadOnly), Ok(0)),
+    Step::Send(1, 2, Asks::DropSet(1), Ok(1)),
+    Step::Send(1, 3, Asks::Abort(2), Ok(2)),
+    Step::Send(1, 4, Asks::DropSet(1), Ok(3)),
+    Step::Turn(17, 0, Turn::Did),
+    Step::Entry(0, 1, 1, Status::Ok, 1),
+    Step::Turn(17, 1, Turn::Did),
+    Step::Entry(1, 1, 3, Status::Ok, 0),
+    Step::Entry(2, 1, 2, Status::Aborted, 0),
+    Step::Turn(17, 0, Turn::Did),
+    Step::Entry(3, 1, 4, Status::Ok, 0),
+    Step::Take(1, 2, Ok(5)),
+];
+
+// A program whose activation is withdrawn cannot be executed, and can be activated later.
+const ACTIVATION_WITHDRAWN: [Step; 14] = [
+    Step::Send(1, 1, Asks::Load, Ok(0)),
+    Step::Send(1, 2, Asks::Activate, Ok(1)),
+    Step::Send(1, 3, Asks::Abort(2), Ok(2)),
+    Step::Send(1, 4, Asks::Execute(0, 1), Ok(3)),
+    Step::Send(1, 5, Asks::Activate, Ok(4)),
+    Step::Turn(17, 0, Turn::Did),
+    Step::Turn(17, 1, Turn::Did),
+    Step::Entry(1, 1, 3, Status::Ok, 0),
+    Step::Entry(2, 1, 2, Status::Aborted, 0),
+    Step::Turn(17, 0, Turn::Did),
+    Step::Entry(3, 1, 4, Status::SlotInactive, 0),
+    Step::Turn(17, 0, Turn::Did),
+    Step::Entry(4, 1, 5, Status::Ok, 0),
+    Step::Take(1, 2, Ok(6)),
+];
+
+// A program of which an unload is withdrawn can be activated; when its deactivation is withdrawn too, it is active.
+const SLOT_STAYS: [Step; 16] = [
+    Step::Send(1, 1, Asks::Load, Ok(0)),
+    Step::Send(1, 2, Asks::Unload, Ok(1)),
+    Step::Send(1, 3, Asks::Abort(2), Ok(2)),
+    Step::Send(1, 4, Asks::Activate, Ok(3)),
+    Step::Send(1, 5, Asks::Deactivate, Ok(4)),
+    Step::Send(1, 6, Asks::Abort(5), Ok(5)),
+    Step::Send(1, 7, Asks::Unload, Ok(6)),
+    Step::Turn(17, 0, Turn::Did),
+    Step::Turn(17, 1, Turn::Did),
+    Step::Entry(2, 1, 2, Status::Aborted, 0),
+    Step::Turn(17, 0, Turn::Did),
+    Step::Entry(3, 1, 4, Status::Ok, 0),
+    Step::Turn(17, 1, Turn::Did),
+    Step::Entry(5, 1, 5, Status::Aborted, 0),
+    Step::Turn(17, 0, Turn::Did),
+    Step::Entry(6, 1, 7, Status::SlotActive, 0),
+];
+
+// An execution that is withdrawn does not hold its set, which can be deleted at once.
+const EXECUTION_WITHDRAWN: [Step; 12] = [
+    Step::Send(1, 1, Asks::Set(0, Access::ReadOnly), Ok(0)),
+    Step::Send(1, 2, Asks::Execute(64, 1), Ok(1)),
+    Step::Send(1, 3, Asks::Abort(2), Ok(2)),
+    Step::Send(1, 4, Asks::DropSet(1), Ok(3)),
+    Step::Turn(17, 0, Turn::Did),
+    Step::Turn(17, 1, Turn::Did),
+    Step::Entry(1, 1, 3, Status::Ok, 0),
+    Step::Entry(2, 1, 2, Status::Aborted, 0),
+    Step::Turn(17, 0, Turn::Did),
+    Step::Entry(3, 1, 4, Status::Ok, 0),
+    Step::Take(1, 2, Ok(5)),
+    Step::Take(1, 3, Ok(5)),
+];
+
+// A fill that has to wait for another one cannot be picked, and can be withdrawn. The other one is carried out.
+const BLOCKED: [Step; 14] = [
+    Step::Send(1, 1, Asks::Fill(0, 4, 1), Ok(0)),
+    Step::Send(1, 2, Asks::Fill(2, 4, 2), Ok(1)),
+    Step::Send(1, 3, Asks::Abort(2), Ok(2)),
+    Step::Turn(17, 0, Turn::Claimed),
+    Step::Pickable(1),
+    Step::Turn(18, 0, Turn::Did),
+    Step::Entry(0, 1, 3, Status::Ok, 0),
+    Step::Entry(1, 1, 2, Status::Aborted, 0),
+    Step::Byte(5, Some(0)),
+    Step::End(0),
+    Step::Entry(2, 1, 1, Status::Ok, 0),
+    Step::Byte(3, Some(1)),
+    Step::Byte(5, Some(0)),
+    Step::Turn(17, 0, Turn::Nothing),
+];
+
 // An Abort comes too late for a fill that is claimed.
 const LATE: [Step; 8] = [
     Step::Send(1, 1, Asks::Fill(0, 4, 1), Ok(0)),
@@ -342,6 +478,168 @@ const LATE: [Step; 8] = [
     Step::Entry(1, 1, 1, Status::Ok, 0),
 ];
 
+// An Abort comes too late for an execution that is claimed: it counts the four zeros of its set, and holds that until it
+// ends.
+const EXECUTION_CLAIMED: [Step; 14] = [
+    Step::Send(1, 1, Asks::Set(0, Access::ReadOnly), Ok(0)),
+    Step::Send(1, 2, Asks::Execute(64, 1), Ok(1)),
+    Step::Send(1, 3, Asks::Abort(2), Ok(2)),
+    Step::Send(1, 4, Asks::DropSet(1), Ok(3)),
+    Step::Turn(17, 0, Turn::Did),
+    Step::Turn(17, 0, Turn::Claimed),
+    Step::Turn(18, 0, Turn::Did),
+    Step::Entry(1, 1, 3, Status::Ok, 1),
+    Step::Turn(18, 0, Turn::Nothing),
+    Step::End(0),
+    Step::Entry(2, 1, 2, Status::Ok, 4),
+    Step::Turn(18, 0, Turn::Did),
+    Step::Entry(3, 1, 4, Status::Ok, 0),
+    Step::Take(1, 2, Ok(7)),
+];
+
+// An Abort withdraws nothing of a fill that is done, whose reply stays where it was posted.
+const DONE: [Step; 10] = [
+    Step::Send(1, 1, Asks::Fill(0, 4, 1), Ok(0)),
+    Step::Turn(17, 0, Turn::Claimed),
+    Step::End(0),
+    Step::Send(1, 2, Asks::Abort(1), Ok(3)),
+    Step::Turn(17, 0, Turn::Did),
+    Step::Entry(0, 1, 1, Status::Ok, 0),
+    Step::Entry(1, 1, 2, Status::Ok, 1),
+    Step::Byte(0, Some(1)),
+    Step::Take(1, 1, Ok(2)),
+    Step::Take(1, 2, Ok(4)),
+];
+
+// An Abort withdraws nothing of a fill that is taken before the Abort is done, or before it is sent.
+const TAKEN: [Step; 13] = [
+    Step::Send(1, 1, Asks::Fill(0, 4, 1), Ok(0)),
+    Step::Send(1, 2, Asks::Abort(1), Ok(1)),
+    Step::Turn(17, 0, Turn::Claimed),
+    Step::End(0),
+    Step::Take(1, 1, Ok(3)),
+    Step::Send(1, 3, Asks::Abort(1), Ok(5)),
+    Step::Turn(17, 0, Turn::Did),
+    Step::Turn(17, 0, Turn::Did),
+    Step::Entry(0, 1, 1, Status::Ok, 0),
+    Step::Entry(1, 1, 2, Status::Ok, 1),
+    Step::Entry(2, 1, 3, Status::Ok, 1),
+    Step::Byte(0, Some(1)),
+    Step::Take(1, 1, Err(TakeCause::NotOutstanding)),
+];
+
+// A fill that is sent under the identifier of a taken one is not what an Abort of before names, and is carried out.
+const REUSED: [Step; 14] = [
+    Step::Send(1, 1, Asks::Fill(0, 4, 1), Ok(0)),
+    Step::Send(1, 2, Asks::Abort(1), Ok(1)),
+    Step::Turn(17, 0, Turn::Claimed),
+    Step::End(0),
+    Step::Take(1, 1, Ok(3)),
+    Step::Send(1, 1, Asks::Fill(4, 4, 2), Ok(5)),
+    Step::Turn(17, 0, Turn::Did),
+    Step::Entry(1, 1, 2, Status::Ok, 1),
+    Step::Turn(17, 0, Turn::Claimed),
+    Step::End(0),
+    Step::Entry(2, 1, 3, Status::Ok, 0),
+    Step::Byte(4, Some(2)),
+    Step::Take(1, 1, Ok(8)),
+    Step::Take(1, 2, Ok(6)),
+];
+
+// After a fill was withdrawn and taken, an Abort names the fill that is sent under its identifier then.
+const NAMED_ANEW: [Step; 14] = [
+    Step::Send(1, 1, Asks::Fill(0, 4, 1), Ok(0)),
+    Step::Send(1, 2, Asks::Abort(1), Ok(1)),
+    Step::Turn(17, 1, Turn::Did),
+    Step::Take(1, 1, Ok(2)),
+    Step::Send(1, 1, Asks::Fill(4, 4, 2), Ok(4)),
+    Step::Send(1, 3, Asks::Abort(1), Ok(5)),
+    Step::Turn(17, 1, Turn::Did),
+    Step::Entry(1, 1, 1, Status::Aborted, 0),
+    Step::Entry(2, 1, 4, Status::Ok, 0),
+    Step::Entry(3, 1, 3, Status::Aborted, 0),
+    Step::Byte(4, Some(0)),
+    Step::Take(1, 1, Ok(6)),
+    Step::Take(1, 2, Ok(2)),
+    Step::Take(1, 3, Ok(6)),
+];
+
+// An Abort names no command of another host, whose fill is carried out, and one of its own host under the same
+// identifier.
+const OTHER_HOST: [Step; 15] = [
+    Step::Send(1, 1, Asks::Fill(0, 4, 1), Ok(0)),
+    Step::Send(2, 2, Asks::Abort(1), Ok(1)),
+    Step::Send(2, 1, Asks::Fill(4, 4, 2), Ok(2)),
+    Step::Send(2, 3, Asks::Abort(1), Ok(3)),
+    Step::Turn(17, 1, Turn::Did),
+    Step::Entry(0, 2, 1, Status::Ok, 1),
+    Step::Turn(17, 2, Turn::Did),
+    Step::Entry(1, 2, 3, Status::Ok, 0),
+    Step::Entry(2, 2, 2, Status::Aborted, 0),
+    Step::Turn(17, 0, Turn::Claimed),
+    Step::End(0),
+    Step::Entry(3, 1, 1, Status::Ok, 0),
+    Step::Byte(0, Some(1)),
+    Step::Byte(4, Some(0)),
+    Step::Take(1, 1, Ok(7)),
+];
+
+// The identifiers of a host's second queue begin at 65,536. An Abort names a command of that queue from the first one, and
+// none that has the same number in its own queue.
+const OTHER_QUEUE: [Step; 16] = [
+    Step::Send(1, 1, Asks::Fill(0, 4, 1), Ok(0)),
+    Step::Send(1, 2, Asks::Abort(65_537), Ok(1)),
+    Step::Send(1, 65_537, Asks::Fill(4, 4, 2), Ok(2)),
+    Step::Send(1, 3, Asks::Abort(65_537), Ok(3)),
+    Step::Turn(17, 1, Turn::Did),
+    Step::Entry(0, 1, 2, Status::Ok, 1),
+    Step::Turn(17, 2, Turn::Did),
+    Step::Entry(1, 1, 4, Status::Ok, 0),
+    Step::Entry(2, 1, 3, Status::Aborted, 0),
+    Step::Turn(17, 0, Turn::Claimed),
+    Step::End(0),
+    Step::Entry(3, 1, 1, Status::Ok, 0),
+    Step::Byte(0, Some(1)),
+    Step::Byte(4, Some(0)),
+    Step::Take(1, 65_537, Ok(5)),
+    Step::Take(1, 1, Ok(7)),
+];
+
+// An Abort that is withdrawn withdraws nothing: the fill that it names is carried out.
+const ABORT_WITHDRAWN: [Step; 13] = [
+    Step::Send(1, 1, Asks::Fill(0, 4, 1), Ok(0)),
+    Step::Send(1, 2, Asks::Abort(1), Ok(1)),
+    Step::Send(1, 3, Asks::Abort(2), Ok(2)),
+    Step::Turn(17, 2, Turn::Did),
+    Step::Entry(0, 1, 3, Status::Ok, 0),
+    Step::Entry(1, 1, 2, Status::Aborted, 0),
+    Step::Pickable(1),
+    Step::Turn(17, 0, Turn::Claimed),
+    Step::End(0),
+    Step::Entry(2, 1, 1, Status::Ok, 0),
+    Step::Byte(0, Some(1)),
+    Step::Take(1, 2, Ok(3)),
+    Step::Take(1, 1, Ok(5)),
+];
+
+// Of two Aborts of one fill the first that is done withdraws it. An Abort of its own identifier names nothing.
+const NAMED_TWICE: [Step; 14] = [
+    Step::Send(1, 1, Asks::Fill(0, 4, 1), Ok(0)),
+    Step::Send(1, 2, Asks::Abort(1), Ok(1)),
+    Step::Send(1, 3, Asks::Abort(1), Ok(2)),
+    Step::Send(1, 4, Asks::Abort(4), Ok(3)),
+    Step::Turn(17, 2, Turn::Did),
+    Step::Entry(0, 1, 3, Status::Ok, 0),
+    Step::Entry(1, 1, 1, Status::Aborted, 0),
+    Step::Turn(17, 0, Turn::Did),
+    Step::Entry(2, 1, 2, Status::Ok, 1),
+    Step::Turn(17, 0, Turn::Did),
+    Step::Entry(3, 1, 4, Status::Ok, 1),
+    Step::Byte(0, Some(0)),
+    Step::Take(1, 1, Ok(4)),
+    Step::Take(1, 2, Ok(5)),
+];
+
 #[test]
 fn calls_are_answered(rt: HostRuntime) {
     let alloc = rt.alloc();
@@ -350,6 +648,52 @@ fn calls_are_answered(rt: HostRuntime) {
     assert_eq!(rt; followed(alloc, 16, 6, &SETS), Some(SETS.len()));
     assert_eq!(rt; followed(alloc, 16, 3, &SECOND), Some(SECOND.len()));
     assert_eq!(rt; followed(alloc, 2, 4, &FULL), Some(FULL.len()));
-    assert_eq!(rt; followed(alloc, 16, 2, &WITHDRAWN), Some(WITHDRAWN.len()));
-    assert_eq!(rt; followed(alloc, 16, 2, &LATE), Some(LATE.len()));
+}
+
+#[test]
+fn commands_of_each_kind_are_withdrawn(rt: HostRuntime) {
+    for (what, steps) in [
+        ("a fill", WITHDRAWN.as_slice()),
+        ("a load", LOAD_WITHDRAWN.as_slice()),
+        ("a setcreate", SET_WITHDRAWN.as_slice()),
+        ("a memread", READ_WITHDRAWN.as_slice()),
+        ("a setdelete", DELETION_WITHDRAWN.as_slice()),
+        ("an activate", ACTIVATION_WITHDRAWN.as_slice()),
+        ("an unload and a deactivate", SLOT_STAYS.as_slice()),
+        ("an execute", EXECUTION_WITHDRAWN.as_slice()),
+        ("a fill that meets a claim", BLOCKED.as_slice()),
+        ("an Abort", ABORT_WITHDRAWN.as_slice()),
+    ] {
+        assert_eq!(rt;
+            followed(rt.alloc(), 16, 7, steps),
+            Some(steps.len()),
+            "{what}"
+        );
+    }
+}
+
+#[test]
+fn aborts_withdraw_what_they_name_and_still_waits(rt: HostRuntime) {
+    for (what, depth, steps) in [
+        ("a fill that is claimed", 16, LATE.as_slice()),
+        (
+            "an execution that is claimed",
+            16,
+            EXECUTION_CLAIMED.as_slice(),
+        ),
+        ("a fill that is done", 16, DONE.as_slice()),
+        ("a fill that is taken", 16, TAKEN.as_slice()),
+        ("a later fill", 16, REUSED.as_slice()),
+        ("a fill after another one", 16, NAMED_ANEW.as_slice()),
+        ("a fill of another host", 16, OTHER_HOST.as_slice()),
+        // Two queues of two commands each.
+        ("a fill of another queue", 4, OTHER_QUEUE.as_slice()),
+        ("one fill twice", 16, NAMED_TWICE.as_slice()),
+    ] {
+        assert_eq!(rt;
+            followed(rt.alloc(), depth, 4, steps),
+            Some(steps.len()),
+            "{what}"
+        );
+    }
 }
