@@ -22,7 +22,7 @@ seed_state seed (suc n) = (mix_u64 (seed_state seed n)).1
 abbrev pub seed_word : ℕ → ℕ → ℕ
 seed_word seed n = (mix_u64 (seed_state seed n)).0
 
--- The program of the load: it counts the first byte of its first range up by one, and ends with the new number.
+-- The program of the load: it counts the first byte of its first range up by one; its result is one more than that byte was.
 --     lddw r1 4294967296, ldxb r0 r1 0, add64 r0 1, stxb r1 0 r0, exit
 abbrev pub counting_program : List ℕ
 counting_program =

@@ -25,7 +25,7 @@ const HOSTS: u32 = 4;
 // The identifiers of a host, and so the most of its commands that are outstanding.
 const IDENTIFIERS: u32 = 16;
 
-// The program of the load. It counts the first byte of its first range up by one, and ends with the new number.
+// The program of the load. It counts the first byte of its first range up by one; the result is one more than that was.
 const PROGRAM: [u8; 48] = [
     0x18, 0x01, 0, 0, 0, 0, 0, 0, // lddw r1 4294967296
     0, 0, 0, 0, 0x01, 0, 0, 0, //
