@@ -2,6 +2,7 @@
 use copy_ranges::check_copy;
 use cp_base::{Command, Config, CopySource, SourceList, SpaceId, Status};
 use std::alloc::Global;
+use std::process::Abort;
 
 // A device with 8 blocks of 512 bytes in NVM namespace 1 and 16 bytes in memory namespace 1, and with
 // large ones of number 2.
@@ -59,8 +60,21 @@ fn to_blocks(
     told(alloc, &Command::NvmCopy { ns, lba, from })
 }
 
+// Expects that the checks of a copy to memory answer so.
+fn expect_to_memory(
+    rt: &impl Abort,
+    alloc: Global,
+    ns: u32,
+    at: u64,
+    sources: [CopySource; 2],
+    wanted: Result<(u64, u64, usize), Status>,
+) {
+    let found = to_memory(alloc, ns, at, &sources);
+    assert_eq!(rt; found, Some(wanted), "to {at} of {ns} from {sources:?}");
+}
+
 #[test]
-fn copies_to_memory_are_checked_in_order(rt: HostRuntime) {
+fn copies_to_memory_are_kept_apart_and_in_range(rt: HostRuntime) {
     for (ns, at, first, second, wanted) in [
         (1, 8, mem(1, 0, 4), mem(1, 2, 4), Ok((8, 8, 2))),
         (1, 4, mem(1, 0, 2), mem(1, 2, 2), Ok((4, 4, 2))),
@@ -82,6 +96,14 @@ fn copies_to_memory_are_checked_in_order(rt: HostRuntime) {
             mem(1, 2, 2),
             Err(Status::OutOfRange),
         ),
+    ] {
+        expect_to_memory(&rt, rt.alloc(), ns, at, [first, second], wanted);
+    }
+}
+
+#[test]
+fn copies_to_memory_are_bounded_in_length(rt: HostRuntime) {
+    for (ns, at, first, second, wanted) in [
         (
             2,
             0,
@@ -110,6 +132,14 @@ fn copies_to_memory_are_checked_in_order(rt: HostRuntime) {
             nvm(1, 0, u64::MAX),
             Err(Status::TooLong),
         ),
+    ] {
+        expect_to_memory(&rt, rt.alloc(), ns, at, [first, second], wanted);
+    }
+}
+
+#[test]
+fn copies_to_memory_are_checked_in_order(rt: HostRuntime) {
+    for (ns, at, first, second, wanted) in [
         (
             1,
             0,
@@ -120,12 +150,7 @@ fn copies_to_memory_are_checked_in_order(rt: HostRuntime) {
         (1, 0, mem(1, 0, 0), mem(3, 0, 1), Err(Status::BadNamespace)),
         (3, 0, mem(1, 0, 0), mem(1, 0, 1), Err(Status::BadNamespace)),
     ] {
-        let found = to_memory(rt.alloc(), ns, at, &[first, second]);
-        assert_eq!(rt;
-            found,
-            Some(wanted),
-            "to {at} of {ns} from {first:?}, {second:?}"
-        );
+        expect_to_memory(&rt, rt.alloc(), ns, at, [first, second], wanted);
     }
 }
 

@@ -330,67 +330,29 @@ fn programs_are_executed(rt: HostRuntime) {
     // adds up as many bytes of range 0 as p1 says
     let sum =
         b"\x18\x04\0\0\0\0\0\0\0\0\0\0\x01\0\0\0\xb7\0\0\0\0\0\0\0\x15\x01\x05\0\0\0\0\0\x71\x45\0\0\0\0\0\0\x0f\x50\0\0\0\0\0\0\x07\x04\0\0\x01\0\0\0\
-        \x17\x01\0\0\x01\0\0\0\x05\0\xfa\xff\0\0\0\0\x95\0\0\0\0\0\0\0";
+        \x17\x01\0\0\x01\0\0\0\x05\0\xfa\xff\0\0\0\0\x95\0\0\0\0\0\0\0"
+            .as_slice();
     // lddw r1 4294967296, stb r1 0 85, stb r1 8 85, exit
-    let stores =
+    let bytes =
         b"\x18\x01\0\0\0\0\0\0\0\0\0\0\x01\0\0\0\x72\x01\0\0\x55\0\0\0\x72\x01\x08\0\x55\0\0\0\x95\0\0\0\0\0\0\0";
+    let stores = bytes.as_slice();
     let locked = MemRange {
         access: Access::ReadOnly,
         ..range(0, 16)
     };
     for (code, range, budget, status, result, first, ninth) in [
-        (sum.as_slice(), range(0, 4), 28, Status::Ok, 10, 1, 0),
-        (sum.as_slice(), locked, 27, Status::BudgetSpent, 27, 1, 0),
-        (sum.as_slice(), range(1, 2), 100, Status::BadAccess, 4, 1, 0),
-        (stores.as_slice(), range(0, 16), 4, Status::Ok, 0, 85, 85),
-        (
-            stores.as_slice(),
-            range(0, 8),
-            4,
-            Status::BadAccess,
-            3,
-            85,
-            0,
-        ),
-        (
-            stores.as_slice(),
-            range(0, 16),
-            2,
-            Status::BudgetSpent,
-            2,
-            85,
-            0,
-        ),
-        (stores.as_slice(), locked, 4, Status::BadAccess, 2, 1, 0),
-        (
-            stores.as_slice(),
-            range(0, 16),
-            0,
-            Status::BudgetRange,
-            0,
-            1,
-            0,
-        ),
-        (
-            stores.as_slice(),
-            range(0, 16),
-            1001,
-            Status::BudgetRange,
-            0,
-            1,
-            0,
-        ),
-        (
-            stores.as_slice(),
-            range(0, 17),
-            4,
-            Status::NoSuchSet,
-            0,
-            1,
-            0,
-        ),
-        (&stores[..15], range(0, 16), 4, Status::SlotEmpty, 0, 1, 0),
-        (&stores[..8], range(0, 16), 4, Status::SlotInactive, 0, 1, 0),
+        (sum, range(0, 4), 28, Status::Ok, 10, 1, 0),
+        (sum, locked, 27, Status::BudgetSpent, 27, 1, 0),
+        (sum, range(1, 2), 100, Status::BadAccess, 4, 1, 0),
+        (stores, range(0, 16), 4, Status::Ok, 0, 85, 85),
+        (stores, range(0, 8), 4, Status::BadAccess, 3, 85, 0),
+        (stores, range(0, 16), 2, Status::BudgetSpent, 2, 85, 0),
+        (stores, locked, 4, Status::BadAccess, 2, 1, 0),
+        (stores, range(0, 16), 0, Status::BudgetRange, 0, 1, 0),
+        (stores, range(0, 16), 1001, Status::BudgetRange, 0, 1, 0),
+        (stores, range(0, 17), 4, Status::NoSuchSet, 0, 1, 0),
+        (&bytes[..15], range(0, 16), 4, Status::SlotEmpty, 0, 1, 0),
+        (&bytes[..8], range(0, 16), 4, Status::SlotInactive, 0, 1, 0),
     ] {
         let found = executed(rt.alloc(), code, range, budget);
         assert_eq!(rt;

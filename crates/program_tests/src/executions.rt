@@ -7,6 +7,7 @@ use bpf_isa::Size;
 use confined_view::{View, Window};
 use cp_base::Bytes;
 use std::alloc::Global;
+use std::process::Abort;
 
 // A view of one window and a stack of zeros.
 fn view_of(alloc: Global, window: Window) -> Option<View>
@@ -40,6 +41,20 @@ fn outcome_on(
 // The same with a range that is writable.
 fn outcome_of(alloc: Global, code: &[u8], len: u32, p1: u64, budget: u64) -> Option<(End, u64)> {
     outcome_on(alloc, code, len, true, p1, budget)
+}
+
+// Expects that a program of such a range ends so, with this first byte of the range then.
+fn expect_outcome(
+    rt: &impl Abort,
+    alloc: Global,
+    code: &[u8],
+    len: u32,
+    p1: u64,
+    budget: u64,
+    wanted: (End, u64),
+) {
+    let found = outcome_of(alloc, code, len, p1, budget);
+    assert_eq!(rt; found, Some(wanted), "with {p1} and the budget {budget}");
 }
 
 // How a program ends that adds up 2,048 ones of range 0, which is read-only, and the sum that it stores in range 1.
@@ -103,12 +118,7 @@ fn programs_exit(rt: HostRuntime) {
             0,
         ),
     ] {
-        let found = outcome_of(rt.alloc(), code, len, p1, budget);
-        assert_eq!(rt;
-            found,
-            Some((end, byte)),
-            "with {p1} and the budget {budget}"
-        );
+        expect_outcome(&rt, rt.alloc(), code, len, p1, budget, (end, byte));
     }
 }
 
@@ -143,17 +153,12 @@ fn stores_stay(rt: HostRuntime) {
             85,
         ),
     ] {
-        let found = outcome_of(rt.alloc(), code, len, p1, budget);
-        assert_eq!(rt;
-            found,
-            Some((end, byte)),
-            "with {p1} and the budget {budget}"
-        );
+        expect_outcome(&rt, rt.alloc(), code, len, p1, budget, (end, byte));
     }
 }
 
 #[test]
-fn divisions(rt: HostRuntime) {
+fn zero_divisors_are_no_faults(rt: HostRuntime) {
     for (code, len, p1, budget, end, byte) in [
         // mov64 r0 7, div64 r0 0, exit
         (
@@ -182,6 +187,14 @@ fn divisions(rt: HostRuntime) {
             End::Exit(4_294_967_295),
             0,
         ),
+    ] {
+        expect_outcome(&rt, rt.alloc(), code, len, p1, budget, (end, byte));
+    }
+}
+
+#[test]
+fn the_least_number_is_divided_by_minus_one(rt: HostRuntime) {
+    for (code, len, p1, budget, end, byte) in [
         // lddw r0 9223372036854775808, sdiv64 r0 -1, exit
         (
             b"\x18\0\0\0\0\0\0\0\0\0\0\0\0\0\0\x80\x37\0\x01\0\xff\xff\xff\xff\x95\0\0\0\0\0\0\0".as_slice(),
@@ -201,12 +214,7 @@ fn divisions(rt: HostRuntime) {
             0,
         ),
     ] {
-        let found = outcome_of(rt.alloc(), code, len, p1, budget);
-        assert_eq!(rt;
-            found,
-            Some((end, byte)),
-            "with {p1} and the budget {budget}"
-        );
+        expect_outcome(&rt, rt.alloc(), code, len, p1, budget, (end, byte));
     }
 }
 
@@ -250,12 +258,7 @@ fn jumps_are_faults_where_no_instruction_starts(rt: HostRuntime) {
             0,
         ),
     ] {
-        let found = outcome_of(rt.alloc(), code, len, p1, budget);
-        assert_eq!(rt;
-            found,
-            Some((end, byte)),
-            "with {p1} and the budget {budget}"
-        );
+        expect_outcome(&rt, rt.alloc(), code, len, p1, budget, (end, byte));
     }
 }
 
@@ -287,6 +290,14 @@ fn calls_are_at_most_eight_deep(rt: HostRuntime) {
             End::CallDepth(2),
             0,
         ),
+    ] {
+        expect_outcome(&rt, rt.alloc(), code, len, p1, budget, (end, byte));
+    }
+}
+
+#[test]
+fn endless_calls_are_at_most_eight_deep(rt: HostRuntime) {
+    for (code, len, p1, budget, end, byte) in [
         // callp -1
         (
             b"\x85\x10\0\0\xff\xff\xff\xff".as_slice(),
@@ -305,12 +316,7 @@ fn calls_are_at_most_eight_deep(rt: HostRuntime) {
             0,
         ),
     ] {
-        let found = outcome_of(rt.alloc(), code, len, p1, budget);
-        assert_eq!(rt;
-            found,
-            Some((end, byte)),
-            "with {p1} and the budget {budget}"
-        );
+        expect_outcome(&rt, rt.alloc(), code, len, p1, budget, (end, byte));
     }
 }
 
@@ -345,12 +351,7 @@ fn helper_and_swap(rt: HostRuntime) {
             0,
         ),
     ] {
-        let found = outcome_of(rt.alloc(), code, len, p1, budget);
-        assert_eq!(rt;
-            found,
-            Some((end, byte)),
-            "with {p1} and the budget {budget}"
-        );
+        expect_outcome(&rt, rt.alloc(), code, len, p1, budget, (end, byte));
     }
 }
 
@@ -367,17 +368,12 @@ fn atomic_fetch(rt: HostRuntime) {
             14,
         ),
     ] {
-        let found = outcome_of(rt.alloc(), code, len, p1, budget);
-        assert_eq!(rt;
-            found,
-            Some((end, byte)),
-            "with {p1} and the budget {budget}"
-        );
+        expect_outcome(&rt, rt.alloc(), code, len, p1, budget, (end, byte));
     }
 }
 
 #[test]
-fn hostile_addresses(rt: HostRuntime) {
+fn stores_are_confined_to_the_stack(rt: HostRuntime) {
     for (code, len, p1, budget, end, byte) in [
         // stb r10 0 1, exit
         (
@@ -397,6 +393,14 @@ fn hostile_addresses(rt: HostRuntime) {
             End::Exit(0),
             0,
         ),
+    ] {
+        expect_outcome(&rt, rt.alloc(), code, len, p1, budget, (end, byte));
+    }
+}
+
+#[test]
+fn loads_are_confined_to_ranges(rt: HostRuntime) {
+    for (code, len, p1, budget, end, byte) in [
         // lddw r1 4294967296, ldxd r0 r1 0, exit
         (
             b"\x18\x01\0\0\0\0\0\0\0\0\0\0\x01\0\0\0\x79\x10\0\0\0\0\0\0\x95\0\0\0\0\0\0\0".as_slice(),
@@ -424,12 +428,7 @@ fn hostile_addresses(rt: HostRuntime) {
             0,
         ),
     ] {
-        let found = outcome_of(rt.alloc(), code, len, p1, budget);
-        assert_eq!(rt;
-            found,
-            Some((end, byte)),
-            "with {p1} and the budget {budget}"
-        );
+        expect_outcome(&rt, rt.alloc(), code, len, p1, budget, (end, byte));
     }
 }
 

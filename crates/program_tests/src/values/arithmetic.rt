@@ -12,7 +12,7 @@ fn values(rt: &impl Abort, op: AluOp, rows: &[[u64; 4]]) {
 }
 
 #[test]
-fn sums_and_products(rt: HostRuntime) {
+fn sums_and_differences(rt: HostRuntime) {
     values(
         &rt,
         AluOp::Add,
@@ -43,6 +43,10 @@ fn sums_and_products(rt: HostRuntime) {
             [0x1_0000_0000, 0xffff_ffff, 1, 1],
         ],
     );
+}
+
+#[test]
+fn products(rt: HostRuntime) {
     values(
         &rt,
         AluOp::Mul,
@@ -58,6 +62,10 @@ fn sums_and_products(rt: HostRuntime) {
             [0x1_0000_0000, 0xffff_ffff, 0xffff_ffff_0000_0000, 0],
         ],
     );
+}
+
+#[test]
+fn negations(rt: HostRuntime) {
     values(
         &rt,
         AluOp::Neg,
@@ -74,7 +82,7 @@ fn sums_and_products(rt: HostRuntime) {
 }
 
 #[test]
-fn quotients_and_remainders(rt: HostRuntime) {
+fn unsigned_quotients_and_remainders(rt: HostRuntime) {
     values(
         &rt,
         AluOp::Div,
@@ -112,6 +120,10 @@ fn quotients_and_remainders(rt: HostRuntime) {
             [0x8000_0000, 0xffff_ffff, 0x8000_0000, 0x8000_0000],
         ],
     );
+}
+
+#[test]
+fn signed_quotients(rt: HostRuntime) {
     values(
         &rt,
         AluOp::Sdiv,
@@ -134,6 +146,10 @@ fn quotients_and_remainders(rt: HostRuntime) {
             [0x1_0000_0007, 0x1_ffff_fffe, 0, 0xffff_fffd],
         ],
     );
+}
+
+#[test]
+fn signed_remainders(rt: HostRuntime) {
     values(
         &rt,
         AluOp::Smod,
@@ -159,7 +175,7 @@ fn quotients_and_remainders(rt: HostRuntime) {
 }
 
 #[test]
-fn bits_and_shifts(rt: HostRuntime) {
+fn bitwise_or(rt: HostRuntime) {
     values(
         &rt,
         AluOp::Or,
@@ -180,6 +196,10 @@ fn bits_and_shifts(rt: HostRuntime) {
             [0x1_0000_0000, 0xffff_ffff, 0x1_ffff_ffff, 0xffff_ffff],
         ],
     );
+}
+
+#[test]
+fn bitwise_and(rt: HostRuntime) {
     values(
         &rt,
         AluOp::And,
@@ -200,6 +220,10 @@ fn bits_and_shifts(rt: HostRuntime) {
             [0x1_0000_0000, 0xffff_ffff, 0, 0],
         ],
     );
+}
+
+#[test]
+fn bitwise_xor(rt: HostRuntime) {
     values(
         &rt,
         AluOp::Xor,
@@ -215,6 +239,10 @@ fn bits_and_shifts(rt: HostRuntime) {
             [0x1_0000_0000, 0xffff_ffff, 0x1_ffff_ffff, 0xffff_ffff],
         ],
     );
+}
+
+#[test]
+fn logical_shifts(rt: HostRuntime) {
     values(
         &rt,
         AluOp::Lsh,
@@ -249,6 +277,10 @@ fn bits_and_shifts(rt: HostRuntime) {
             [0x1_8000_0000, 0x20, 1, 0x8000_0000],
         ],
     );
+}
+
+#[test]
+fn arithmetic_shifts(rt: HostRuntime) {
     values(
         &rt,
         AluOp::Arsh,
@@ -282,6 +314,10 @@ fn moves(rt: HostRuntime) {
             [0, 0x1_0000_0000, 0x1_0000_0000, 0],
         ],
     );
+}
+
+#[test]
+fn moves_that_sign_extend(rt: HostRuntime) {
     values(
         &rt,
         AluOp::Movsx8,

@@ -37,13 +37,29 @@ const YES: bool = true;
 const NO: bool = false;
 
 #[test]
-fn comparisons(rt: HostRuntime) {
+fn equality_and_common_bits(rt: HostRuntime) {
     holds(
         &rt,
         JumpOp::Jeq,
         [YES, NO, NO, NO, NO, NO, NO, NO, NO],
         [YES, NO, NO, NO, NO, NO, NO, NO, NO],
     );
+    holds(
+        &rt,
+        JumpOp::Jne,
+        [NO, YES, YES, YES, YES, YES, YES, YES, YES],
+        [NO, YES, YES, YES, YES, YES, YES, YES, YES],
+    );
+    holds(
+        &rt,
+        JumpOp::Jset,
+        [NO, NO, NO, YES, YES, NO, NO, NO, NO],
+        [NO, NO, NO, YES, NO, NO, NO, NO, NO],
+    );
+}
+
+#[test]
+fn unsigned_orders(rt: HostRuntime) {
     holds(
         &rt,
         JumpOp::Jgt,
@@ -58,16 +74,20 @@ fn comparisons(rt: HostRuntime) {
     );
     holds(
         &rt,
-        JumpOp::Jset,
-        [NO, NO, NO, YES, YES, NO, NO, NO, NO],
-        [NO, NO, NO, YES, NO, NO, NO, NO, NO],
+        JumpOp::Jlt,
+        [NO, NO, YES, NO, YES, YES, NO, NO, YES],
+        [NO, NO, YES, NO, YES, NO, NO, YES, YES],
     );
     holds(
         &rt,
-        JumpOp::Jne,
-        [NO, YES, YES, YES, YES, YES, YES, YES, YES],
-        [NO, YES, YES, YES, YES, YES, YES, YES, YES],
+        JumpOp::Jle,
+        [YES, NO, YES, NO, YES, YES, NO, NO, YES],
+        [YES, NO, YES, NO, YES, NO, NO, YES, YES],
     );
+}
+
+#[test]
+fn signed_orders(rt: HostRuntime) {
     holds(
         &rt,
         JumpOp::Jsgt,
@@ -79,18 +99,6 @@ fn comparisons(rt: HostRuntime) {
         JumpOp::Jsge,
         [YES, YES, NO, NO, NO, YES, YES, YES, NO],
         [YES, YES, NO, NO, YES, NO, NO, YES, NO],
-    );
-    holds(
-        &rt,
-        JumpOp::Jlt,
-        [NO, NO, YES, NO, YES, YES, NO, NO, YES],
-        [NO, NO, YES, NO, YES, NO, NO, YES, YES],
-    );
-    holds(
-        &rt,
-        JumpOp::Jle,
-        [YES, NO, YES, NO, YES, YES, NO, NO, YES],
-        [YES, NO, YES, NO, YES, NO, NO, YES, YES],
     );
     holds(
         &rt,

@@ -28,7 +28,7 @@ fn double_words(rt: &impl Abort, op: AtomicOp, rows: &[[u64; 4]]) {
 }
 
 #[test]
-fn byte_swaps(rt: HostRuntime) {
+fn swaps_to_little_endian(rt: HostRuntime) {
     swaps(
         &rt,
         SwapOp::ToLittle,
@@ -59,6 +59,10 @@ fn byte_swaps(rt: HostRuntime) {
             [0xffff_ffff_ffff_0000, 0xffff_ffff_ffff_0000],
         ],
     );
+}
+
+#[test]
+fn swaps_to_big_endian(rt: HostRuntime) {
     swaps(
         &rt,
         SwapOp::ToBig,
@@ -89,6 +93,10 @@ fn byte_swaps(rt: HostRuntime) {
             [0xffff_ffff_ffff_0000, 0xffff_ffff_ffff],
         ],
     );
+}
+
+#[test]
+fn unconditional_swaps(rt: HostRuntime) {
     swaps(
         &rt,
         SwapOp::Swap,
@@ -122,7 +130,7 @@ fn byte_swaps(rt: HostRuntime) {
 }
 
 #[test]
-fn atomic_words(rt: HostRuntime) {
+fn atomic_sums_of_words(rt: HostRuntime) {
     words(
         &rt,
         AtomicOp::Add,
@@ -133,6 +141,10 @@ fn atomic_words(rt: HostRuntime) {
             [5, 0x1_0000_0009, 0xffff_ffff_0000_0005, 0xe],
         ],
     );
+}
+
+#[test]
+fn atomic_bit_operations_on_words(rt: HostRuntime) {
     words(
         &rt,
         AtomicOp::Or,
@@ -163,6 +175,10 @@ fn atomic_words(rt: HostRuntime) {
             [5, 0x1_0000_0009, 0xffff_ffff_0000_0005, 0xc],
         ],
     );
+}
+
+#[test]
+fn atomic_exchanges_of_words(rt: HostRuntime) {
     words(
         &rt,
         AtomicOp::Xchg,
@@ -186,7 +202,7 @@ fn atomic_words(rt: HostRuntime) {
 }
 
 #[test]
-fn atomic_double_words(rt: HostRuntime) {
+fn atomic_sums_of_double_words(rt: HostRuntime) {
     double_words(
         &rt,
         AtomicOp::Add,
@@ -202,6 +218,10 @@ fn atomic_double_words(rt: HostRuntime) {
             [5, 0x1_0000_0009, 0xffff_ffff_0000_0005, 0x1_0000_000e],
         ],
     );
+}
+
+#[test]
+fn atomic_or_of_double_words(rt: HostRuntime) {
     double_words(
         &rt,
         AtomicOp::Or,
@@ -222,6 +242,10 @@ fn atomic_double_words(rt: HostRuntime) {
             [5, 0x1_0000_0009, 0xffff_ffff_0000_0005, 0x1_0000_000d],
         ],
     );
+}
+
+#[test]
+fn atomic_and_of_double_words(rt: HostRuntime) {
     double_words(
         &rt,
         AtomicOp::And,
@@ -237,6 +261,10 @@ fn atomic_double_words(rt: HostRuntime) {
             [5, 0x1_0000_0009, 0xffff_ffff_0000_0005, 1],
         ],
     );
+}
+
+#[test]
+fn atomic_xor_of_double_words(rt: HostRuntime) {
     double_words(
         &rt,
         AtomicOp::Xor,
@@ -257,6 +285,10 @@ fn atomic_double_words(rt: HostRuntime) {
             [5, 0x1_0000_0009, 0xffff_ffff_0000_0005, 0x1_0000_000c],
         ],
     );
+}
+
+#[test]
+fn atomic_exchanges_of_double_words(rt: HostRuntime) {
     double_words(
         &rt,
         AtomicOp::Xchg,
