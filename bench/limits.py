@@ -1,7 +1,7 @@
 #!/usr/bin/env python3
-"""Seconds and peak memory of the program on inputs that mean no good: scripts at every limit of both versions, as many
-outstanding commands as there may be, all memory filled, a history as long as `check` reads, lines of megabytes, bytes of
-0 and what is no UTF-8. Scripts go through `step 1 0`, `serve 16` and, with what `step` printed, `check`; inputs that are
+"""Seconds and peak memory of the program on inputs that mean no good: scripts at every limit of both versions, as
+many outstanding commands as there may be, all memory filled, a history as long as `check` reads, lines of megabytes,
+bytes of 0 and what is no UTF-8. Scripts go through `step 1 0`, `serve 16` and, with what `step` printed, `check`; inputs that are
 no scripts through `step 1 0` and, with an empty line behind them, `check`.
 
     python3 bench/limits.py [WORD ..]
@@ -64,8 +64,8 @@ class Table:
         beside = f"{peak * (1 << 20) / len(data):8.2f}" if len(data) >= 1_000_000 else f"{'':8}"
         mark = "" if fits(run) else f"  WRONG: {run.text[:60]!r}"
         self.wrong += bool(mark)
-        print(f"{name:48} {' '.join(words):9} {len(data) / 1e6:7.2f} {run.status:6} {run.seconds:8.3f} {peak:8.1f} "
-              f"{beside}{mark}", flush=True)
+        print(f"{name:48} {' '.join(words):9} {len(data) / 1e6:7.2f} {run.status:6} {run.seconds:8.3f} "
+              f"{peak:8.1f} {beside}{mark}", flush=True)
         return run
 
 
@@ -74,8 +74,8 @@ def refused_with(text):
 
 
 def scripts(table, name, make):
-    """A script by a schedule and by threads, and what the schedule printed by `check`. Of one that is too long nothing is
-    printed that `check` could hold against it."""
+    """A script by a schedule and by threads, and what the schedule printed by `check`. Of one that is too long nothing
+    is printed that `check` could hold against it."""
     text = make()
     too_long = name.startswith("one byte more")
     carried_out = refused_with(b"too long\n") if too_long else lambda run: run.status == 0
