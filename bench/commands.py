@@ -7,7 +7,7 @@ shows, over doubled sizes.
 
 import random
 
-from measure import best_in_turn, build, doubled
+from measure import best_in_turn, build, doubled, peaks
 
 ONE = ["step", "1", "0"]
 SIXTEEN = ["step", "16", "0"]
@@ -82,12 +82,16 @@ FORMS = [
 
 def main():
     build()
-    for name, words, script, sizes in FORMS:
-        empty, *runs = best_in_turn(11, [(words, script(size)) for size in (0, *sizes)])
-        print(f"without commands: {empty.seconds * 1e3:.2f} ms, taken off below; {empty.peak_kib / 1024:.1f} MiB")
+    # (all forms and sizes in one turn, so that what is told of one can be held against another)
+    forms = [[(words, script(size)) for size in (0, *sizes)] for _, words, script, sizes in FORMS]
+    runs = iter(best_in_turn(11, [run for form in forms for run in form]))
+    for (name, _, _, sizes), form in zip(FORMS, forms):
+        empty, *fastest = [next(runs) for _ in form]
+        begun, *tops = peaks(form)
+        print(f"without commands: {empty.seconds * 1e3:.2f} ms, taken off below; {begun:.1f} MiB")
         print(f"{name:28} {'count':>7} {'ms':>9} {'us each':>8} {'ratio':>6} {'peak MiB':>9}")
-        for size, run, seconds, ratio in doubled(zip(sizes, runs), empty):
-            print(f"{'':28} {size:7} {seconds * 1e3:9.2f} {seconds / size * 1e6:8.3f} {ratio:>6} {run.peak_kib / 1024:9.1f}")
+        for (size, _, seconds, ratio), peak in zip(doubled(zip(sizes, fastest), empty), tops):
+            print(f"{'':28} {size:7} {seconds * 1e3:9.2f} {seconds / size * 1e6:8.3f} {ratio:>6} {peak:9.1f}")
 
 
 if __name__ == "__main__":

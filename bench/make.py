@@ -5,7 +5,7 @@ numbers of commands.
     python3 bench/make.py
 """
 
-from measure import best_in_turn, build, doubled
+from measure import best_in_turn, build, doubled, peaks
 
 SIZES = [2_048, 4_096, 8_192]
 
@@ -16,11 +16,13 @@ def words(commands):
 
 def main():
     build()
-    empty, *runs = best_in_turn(15, [(words(size), b"") for size in (0, *SIZES)])
-    print(f"no commands: {empty.seconds * 1e3:.2f} ms, taken off below; {empty.peak_kib / 1024:.1f} MiB")
+    loads = [(words(size), b"") for size in (0, *SIZES)]
+    empty, *runs = best_in_turn(15, loads)
+    begun, *tops = peaks(loads)
+    print(f"no commands: {empty.seconds * 1e3:.2f} ms, taken off below; {begun:.1f} MiB")
     print(f"{'commands':>8} {'ms':>9} {'us each':>8} {'ratio':>6} {'peak MiB':>9}")
-    for size, run, seconds, ratio in doubled(zip(SIZES, runs), empty):
-        print(f"{size:8} {seconds * 1e3:9.2f} {seconds / size * 1e6:8.3f} {ratio:>6} {run.peak_kib / 1024:9.1f}")
+    for (size, _, seconds, ratio), peak in zip(doubled(zip(SIZES, runs), empty), tops):
+        print(f"{size:8} {seconds * 1e3:9.2f} {seconds / size * 1e6:8.3f} {ratio:>6} {peak:9.1f}")
 
 
 if __name__ == "__main__":

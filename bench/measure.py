@@ -5,10 +5,14 @@ import subprocess
 import sys
 import tempfile
 import time
+from contextlib import ExitStack
+from functools import partial
 from pathlib import Path
 
 TOP = Path(__file__).resolve().parent.parent
 PROGRAM = TOP / "out" / "nvmecp"
+# GNU time, which tells the peak memory of what it runs.
+TIME = Path("/usr/bin/time")
 
 
 class Run:
@@ -45,6 +49,60 @@ def run_once(words, data, keep, program=PROGRAM):
         return Run(seconds, usage.ru_utime, usage.ru_maxrss, child.returncode, sink.read() if keep else b"")
 
 
+def run_together(words, data, count):
+    """So many runs of the program on these bytes at once, each with files of its own: the seconds until the last is
+    over, the processor time of all and the largest peak memory of one. Each has to end with status 0."""
+    with ExitStack() as files:
+        sources = [files.enter_context(tempfile.TemporaryFile()) for _ in range(count)]
+        sinks = [files.enter_context(tempfile.TemporaryFile()) for _ in range(count)]
+        for source in sources:
+            source.write(data)
+            source.seek(0)
+        began = time.perf_counter()
+        files_of = zip(sources, sinks)
+        children = [subprocess.Popen([PROGRAM, *words], stdin=it, stdout=to, cwd=TOP) for it, to in files_of]
+        ends = [os.wait4(child.pid, 0) for child in children]
+        seconds = time.perf_counter() - began
+    for child, (_, state, _) in zip(children, ends):
+        child.returncode = os.waitstatus_to_exitcode(state)
+        if child.returncode != 0:
+            sys.exit(f"{' '.join(words)}, {count} at once: status {child.returncode}")
+    usages = [usage for _, _, usage in ends]
+    return Run(seconds, sum(it.ru_utime for it in usages), max(it.ru_maxrss for it in usages), 0, b"")
+
+
+def run_under_time(command, data, keep=False):
+    """One run of a command on these bytes under GNU time, whose text is kept or not. Its peak memory is its own, since
+    GNU time, which starts it, is small; its seconds have the start of GNU time in them, about a millisecond."""
+    if not TIME.exists():
+        sys.exit(f"{TIME} is missing: without GNU time (the package `time`) no peak memory can be told")
+    with tempfile.TemporaryFile() as source, tempfile.TemporaryFile() as sink, tempfile.NamedTemporaryFile() as report:
+        source.write(data)
+        source.seek(0)
+        began = time.perf_counter()
+        timed = [TIME, "-f", "%M %U", "-o", report.name, *command]
+        done = subprocess.run(timed, stdin=source, stdout=sink, cwd=TOP, check=False)
+        seconds = time.perf_counter() - began
+        # (a line before the last tells of a status that is not 0)
+        peak_kib, busy = report.read().splitlines()[-1].split()
+        sink.seek(0)
+        return Run(seconds, float(busy), int(peak_kib), done.returncode, sink.read() if keep else b"")
+
+
+def peak_mib(command, data, status=0):
+    """The peak resident memory of a command on these bytes in MiB, and the seconds that it took under GNU time. It has
+    to end with this status."""
+    run = run_under_time(command, data)
+    if run.status != status:
+        sys.exit(f"{' '.join(map(str, command))}: status {run.status}")
+    return run.peak_kib / 1024, run.seconds
+
+
+def peaks(runs, status=0):
+    """The peak memory of the program in MiB for each of these words and inputs, as `best_in_turn` takes them."""
+    return [peak_mib([PROGRAM, *words], data, status)[0] for words, data, *_ in runs]
+
+
 def best_of(times, words, data, status, text=None, keep=True, program=PROGRAM):
     """The fastest of some runs of a program, each of which has to end with this status and, where one is given, with
     this text."""
@@ -55,16 +113,25 @@ def best_of(times, words, data, status, text=None, keep=True, program=PROGRAM):
     return min(runs, key=lambda run: run.seconds)
 
 
-def best_in_turn(times, runs, status=0, program=PROGRAM):
-    """The fastest run of a program for each of these words and inputs, whose texts are not kept. They are run in turn, so
-    that all meet the machine alike."""
-    best = [None] * len(runs)
+def in_turn(times, calls):
+    """The fastest run of each of these calls, each of which gives a run. They are called in turn, so that all meet the
+    machine alike."""
+    best = [None] * len(calls)
     for _ in range(times):
-        for number, (words, data) in enumerate(runs):
-            run = best_of(1, words, data, status, keep=False, program=program)
+        for number, call in enumerate(calls):
+            run = call()
             if best[number] is None or run.seconds < best[number].seconds:
                 best[number] = run
     return best
+
+
+def best_in_turn(times, runs, status=0, program=PROGRAM):
+    """The fastest run of a program for each of these words and inputs, taken in turn. Behind an input the text may
+    stand that the run has to give; where none stands, texts are not kept."""
+    calls = []
+    for words, data, *text in runs:
+        calls.append(partial(best_of, 1, words, data, status, *text, keep=bool(text), program=program))
+    return in_turn(times, calls)
 
 
 def doubled(rows, empty):

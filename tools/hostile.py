@@ -13,12 +13,13 @@ import sys
 from concurrent.futures import ThreadPoolExecutor
 
 from crates import TOP
+from inputs import (
+    MOST_BYTES, STRANGE, VERSION_1, VERSION_2, all_limits, all_limits_of_version_2, filled_memory, many_lines, script,
+)
 from loads import words_from
 
 PROGRAM = TOP / "nvmecp"
 STORED = TOP / "examples" / "sum-of-blocks.script"
-# The largest input, in bytes.
-MOST_BYTES = 33_554_432
 # How long one run may take, in seconds. No run comes near it.
 PATIENCE = 120
 FAULT = re.compile(rb"line (\d+): [A-Z][A-Za-z]+\n")
@@ -48,14 +49,6 @@ def is_legal(text, history):
     return done.returncode == 0 and done.stdout == b"legal\n"
 
 
-def header(depth=16, budget=1000, block=512):
-    return f"nvmecp 1 block={block} depth={depth} budget={budget}\n"
-
-
-def script(*lines, **limits):
-    return (header(**limits) + "".join(f"{it}\n" for it in lines)).encode()
-
-
 def entries(text):
     """The entries of a history by host and ordinal, and the lines behind them; None where a line is none, or numbers do not
     ascend from 1, or a command stands there twice."""
@@ -83,75 +76,41 @@ def one_transfer():
     return answered(script(*lines), 0, text.encode())
 
 
-def most_lines():
-    """16 hosts with 1,024 sends and takes each, each on a byte of its own."""
-    lines = ["mem 1 bytes=16", "phase"]
-    for host in range(1, 17):
-        lines.append(f"host {host}")
-        for it in range(1024):
-            lines += [f"send {it} memfill ns=1 at={host - 1} len=1 value={it % 256}", f"take {it}"]
-    lines.append("show mem 1 at=0 len=16")
-    done = run(script(*lines))
-    read = entries(done.stdout) if done.returncode == 0 else None
+def each_line(version, outstanding):
+    """The most commands of 16 hosts, of which each has so many outstanding: each is told once, and the last shown."""
+    done = run(many_lines(version, outstanding))
+    read = entries(done.stdout) if done.returncode == 0 and not done.stderr else None
     if read is None:
         return told(done)
     found, shown = read
-    wanted = {(host, number) for host in range(1, 17) for number in range(1, 1025)}
-    if set(found) != wanted or any(it[6] != b"Ok" for it in found.values()) or shown != [b"show mem 1 at=0 len=16 d=" + b"ff" * 16]:
+    wanted = {(host, number) for host in range(1, 17) for number in range(1, version.sends // 16 + 1)}
+    all_ok = all(it[6] == b"Ok" for it in found.values())
+    if set(found) != wanted or not all_ok or shown != [b"show mem 1 at=0 len=16 d=" + b"ff" * 16]:
         return "not each command once, or not as it should be"
     return None
 
 
-def all_memory():
-    """Four namespaces of 16 MiB, filled from end to end by 1 MiB at a time."""
-    size = 1 << 24
-    lines = [f"mem {it} bytes={size}" for it in range(1, 5)] + ["phase", "host 1"]
-    number = 0
-    for namespace in range(1, 5):
-        for at in range(0, size, 1 << 20):
-            number += 1
-            lines += [f"send 1 memfill ns={namespace} at={at} len={1 << 20} value={number}", "take 1"]
-    lines += [f"show mem {it} at={size - 2} len=2" for it in range(1, 5)]
-    text = "".join(f"#{it} h1 n{it} c1 memfill Ok r=0 d=\n" for it in range(1, 65))
-    text += "".join(f"show mem {it} at={size - 2} len=2 d={16 * it:02x}{16 * it:02x}\n" for it in range(1, 5))
-    return answered(script(*lines), 0, text.encode())
+def all_memory(version):
+    """Four namespaces of 16 MiB, filled from end to end."""
+    text, printed = filled_memory(version)
+    return answered(text, 0, printed)
 
 
-def all_limits(sends=16_384, phases=1_024, shows=1_024, length=MOST_BYTES):
-    """A script with so many sends, phases and shows that has so many bytes: as many of the sends write as fill it."""
-    lines = [header(256, 10_000_000)[:-1], "mem 1 bytes=16777216"]
-    per_phase = -(-sends // phases)
-    left = sends
-    for _ in range(phases):
-        lines += ["phase", "host 1"]
-        for it in range(min(per_phase, left)):
-            lines.append(f"send {it} memwrite ns=1 at=0 data=")
-        left -= min(per_phase, left)
-    lines += ["show mem 1 at=0 len=1"] * shows
-    missing = length - sum(len(it) + 1 for it in lines)
-    for place, line in enumerate(lines):
-        digits = min(missing, 16_384) // 2 * 2
-        if line.endswith("data=") and digits:
-            lines[place] = line + "0" * digits
-            missing -= digits
-    if missing:
-        lines[-1] = lines[-1].replace("len=1", "len=10" if missing == 1 else "len=100")
-    return "".join(f"{it}\n" for it in lines).encode()
-
-
-def every_limit_at_once():
-    text = all_limits()
-    done = run(text)
+def every_limit_at_once(version):
+    """A script that has the most bytes, sends, phases and shows is carried out whole; one byte more is too long."""
+    text = all_limits(version)
     if len(text) != MOST_BYTES:
         return f"the script has {len(text)} bytes"
-    read = entries(done.stdout) if done.returncode == 0 else None
-    return None if read and len(read[0]) == 16_384 and len(read[1]) == 1_024 else told(done)
+    done = run(text)
+    read = entries(done.stdout) if done.returncode == 0 and not done.stderr else None
+    if not read or len(read[0]) != version.sends or len(read[1]) != version.shows:
+        return told(done)
+    return answered(all_limits(version, length=MOST_BYTES + 1), 2, b"too long\n")
 
 
-def one_past(number, line, **more):
-    """A script that has one more than may be of something is refused at the line where it has it."""
-    text = all_limits(**more, length=0)
-    at = next(place for place, it in enumerate(text.split(b"\n"), 1) if it.startswith(line) and (number := number - 1) < 0)
+def one_past(line, text):
+    """A script that has one line more than may be of a kind is refused at the last of them."""
+    at = max(place for place, it in enumerate(text.split(b"\n"), 1) if it.startswith(line))
     return answered(text, 2, f"line {at}: Limit\n".encode())
 
 
@@ -172,6 +131,9 @@ LIMITS = (
     ("budget=%s in version 2", "nvmecp 2 block=512 queues=1 depth=1 budget={}\nphase\nhost 1\n", 100_000_000),
     ("queue %s", "nvmecp 2 block=512 queues=3 depth=1 budget=1\nphase\nhost 1\nsend {}:1 unload slot=0\n", 3),
     ("cid %s of a queue", "nvmecp 2 block=512 queues=3 depth=1 budget=1\nphase\nhost 1\nsend 1:{} unload slot=0\n", 65_535),
+    ("host %s in version 2", "nvmecp 2 block=512 queues=1 depth=1 budget=1\nphase\nhost {}\n", 16),
+    ("bytes=%s in version 2", "nvmecp 2 block=512 queues=1 depth=1 budget=1\nmem 1 bytes={}\nphase\nhost 1\n", 16_777_216),
+    ("cid %s of an abort", "nvmecp 2 block=512 queues=3 depth=1 budget=1\nphase\nhost 1\nsend 1:1 abort cid=3:{}\n", 65_535),
     ("queue %s of an abort", "nvmecp 2 block=512 queues=3 depth=1 budget=1\nphase\nhost 1\nsend 1:1 abort cid={}:1\n", 3),
 )
 
@@ -184,25 +146,6 @@ def one_limit(form, most):
         return f"at the limit: {told(done)}"
     return answered(form.format(most + 1).encode(), 2, f"line {line}: Limit\n".encode()) or answered(
         form.format(1 << 64).encode(), 2, f"line {line}: Number\n".encode())
-
-
-# ---- inputs that are none
-
-
-STRANGE = (
-    ("no byte at all", b"", b"line 1: Order\n"),
-    ("bytes of 0", header().encode() + b"\0\0\0\0\n", b"line 2: Word\n"),
-    ("a byte of 0 behind a word", header().encode() + b"mem\0 1 bytes=1\n", b"line 2: Word\n"),
-    ("what is no UTF-8", header().encode() + b"mem 1 bytes=\xff\xfe\n", b"line 2: Number\n"),
-    ("a word that is no UTF-8", header().encode() + b"\xc3\x28 1\n", b"line 2: Word\n"),
-    ("ends of lines as on other systems", header().encode()[:-1] + b"\r\n", b"line 1: Number\n"),
-    ("a line of 8 MB of one letter", b"x" * 8_000_000 + b"\n", b"line 1: Word\n"),
-    ("a number of 8 MB", header().encode() + b"mem 1 bytes=" + b"9" * 8_000_000 + b"\n", b"line 2: Number\n"),
-    ("8 MB of separators", header().encode() + b"mem" + b" " * 8_000_000 + b"\n", b"line 2: Field\n"),
-    ("8 MB of empty lines", header().encode() + b"\n" * 8_000_000, b"line 2: Word\n"),
-    ("a list of 2 MB of elements", header().encode() + b"mem 1 bytes=1\nphase\nhost 1\nsend 1 memcopy ns=1 at=0 from=" + b"m1:0:1," * 300_000 + b"m1:0:1\n",
-     b"line 5: Limit\n"),
-)
 
 
 # ---- scripts that are cut or changed
@@ -363,12 +306,16 @@ def check_hostile(note):
     """Runs all cases, and tells each by `note(what, wrong)`."""
     stored = STORED.read_bytes()
     note("a write and a read of 8,192 bytes", one_transfer())
-    note("16 hosts and 32,768 lines of sends and takes", most_lines())
-    note("64 MiB of memory, filled from end to end", all_memory())
-    note("every limit of a script at once", every_limit_at_once())
-    note("one send too many", one_past(16_384, b"send", sends=16_385))
-    note("one phase too many", one_past(1_024, b"phase", phases=1_025))
-    note("one show too many", one_past(1_024, b"show", shows=1_025))
+    note("16 hosts and 32,768 lines of sends and takes", each_line(VERSION_1, 1))
+    note("16 hosts with 256 outstanding commands", each_line(VERSION_1, 256))
+    note("16 hosts with 4,096 outstanding commands in 16 queues", each_line(VERSION_2, 4_096))
+    for number, version in enumerate((VERSION_1, VERSION_2), 1):
+        note(f"64 MiB of memory, filled from end to end, version {number}", all_memory(version))
+        note(f"every limit of a script of version {number} at once, and one byte more", every_limit_at_once(version))
+    for make, version, number in ((all_limits, VERSION_1, 1), (all_limits_of_version_2, VERSION_2, 2)):
+        note(f"one send too many, version {number}", one_past(b"send", make(sends=version.sends + 1, length=0)))
+        note(f"one phase too many, version {number}", one_past(b"phase", make(phases=version.phases + 1, length=0)))
+        note(f"one show too many, version {number}", one_past(b"show", make(shows=version.shows + 1, length=0)))
     for name, form, most in LIMITS:
         note(f"{name % most}, and one more", one_limit(form, most))
     for name, text, answer in STRANGE:

@@ -11,7 +11,8 @@ import sys
 import time
 
 from crates import TOP
-from hostile import entries, is_legal, run, script, told
+from hostile import entries, is_legal, run, told
+from inputs import script
 
 STORED = (TOP / "crates" / "nvmecp" / "stdin").read_bytes()
 TOTAL = 100
