@@ -11,9 +11,9 @@ ghost use Rattle.script_cmds.specs.Kept.{KeepsOrderAndLimits};
 ghost use Rattle.nvmecp.specs.declared.words.Asked.{Asked};
 
 /// One question and one input have one output: two texts that answer it are equal for `asm` and `dis`, two
-/// texts that refuse it are equal for each word, and no input is both answered and refused. A script may have
-/// several histories, but a text tells one of them; and workers and choices select one text, where no command finds
-/// no memory.
+/// texts that refuse it are equal for each word that `run` answers from an input, and no input within its limit is both
+/// answered and refused. A script may have several histories, but a text tells one of them; and workers and choices
+/// select one text, where no command finds no memory.
 pub fn one_output()
     ensures assembled { (input one other : List ℕ) → IsAssembly input one → IsAssembly input other → one ≡ other }
     ensures disassembled { (input one other : List ℕ) → IsDisassembly input one → IsDisassembly input other → one ≡ other }

@@ -59,7 +59,7 @@ fn make_and_sum_up<K: Sink>(alloc: Global, load: Load, sink: &mut K) -> u8
     make::answer(alloc, load, sink).status()
 }
 
-/// Runs every word but `serve`: the words of the command line after the program's name, the source of its input and the
+/// Runs every word but `serve`: the words behind the program's name, the source of its input and the
 /// sink of its text. Gives the status: 0 done, 1 wrong words, 2 the input is refused, 3 the source failed,
 /// 4 the sink failed, 5 memory is wanting, 6 what the input says does not hold.
 pub fn run<S: Source, K: Sink>(alloc: Global, words: &[String], source: &mut S, sink: &mut K) -> u8

@@ -145,10 +145,10 @@ fn read_workers(words: &[String]) -> Option<u32>
     }
 }
 
-/// Runs the word `serve`: the words of the command line after the program's name, the source of its input, the sink of
-/// its text, and a gate that may hold threads. In each phase the script's hosts and the workers are threads that share one
-/// device. Where a thread cannot be made, the caller does that part itself. It returns only where the threads let each
-/// other. Gives the status: 0 done, 1 wrong words, 2 the input is refused, 3 the source failed, 4 the sink failed,
+/// Runs the word `serve`: the words behind the program's name, the source of its input, the sink of its text, and a gate
+/// that may hold threads. In each phase the script's hosts and the workers are threads that share one device. Where a
+/// thread cannot be made, the caller does that part itself. It returns only where the threads let each other. Gives the
+/// status: 0 done, 1 wrong words, 2 the input is refused, 3 the source failed, 4 the sink failed,
 /// 5 memory is wanting.
 pub fn serve<R: Threads + Wait + Sync, S: Source, K: Sink, G: Gate>(
     rt: &R,

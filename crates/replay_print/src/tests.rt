@@ -117,6 +117,7 @@ fn statuses_have_their_names(rt: HostRuntime) -> Result<(), Fail> {
         Status::CallDepth,
         Status::BudgetSpent,
         Status::NoMemory,
+        Status::Aborted,
     ] {
         let name = format!(in rt.alloc(); "{status:?}")?;
         assert_eq!(rt; status_name(status), name.as_str());

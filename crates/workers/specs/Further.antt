@@ -43,7 +43,7 @@ outstanding_by p = (account_of (made_by p)).outstanding
 abbrev pub cids_by : DevicePass → List ℕ
 cids_by p = map (λ (o : Outstanding). o.cid) (outstanding_by p)
 
--- in the trail that the pass has seen the device is at rest and nothing is queued
+-- in the trail that the pass has seen nothing is queued and the device rests
 pub record SeesRest (d : DeviceName) (p : DevicePass) : Type 0 where
   pub at_rest : IsTrue (world_seen d p).at_rest
   pub none : queued_among (world_seen d p).submits ≡ []

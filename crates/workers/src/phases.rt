@@ -105,7 +105,7 @@ fn run_workers<R: Threads + Wait + Sync, G: Gate>(
 /// made, the caller does that part itself. It returns only where others let it. Where there is no memory for a
 /// command, the command is answered so.
 ///
-/// All passes are at home and idle, and none of the phase's hosts has an outstanding command. It is the same
+/// Each pass is at home and idle, and none of the phase's hosts has an outstanding command. It is the same
 /// afterwards, and each party has submitted and taken exactly what its part says, in order. Beside that there are
 /// claims, finishes, dos, and at most one rest, by party 1.
 pub fn run_phase<R: Threads + Wait + Sync, G: Gate>(

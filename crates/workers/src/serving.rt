@@ -45,7 +45,7 @@ pub(crate) fn serve_one<R: Wait, G: Gate>(rt: &R, device: &Device, pass: Pass, g
     }
 }
 
-/// A party carries out commands until the device is at rest and nothing is queued. It returns only then. It adds
+/// A party carries out commands until nothing is queued and the device rests. It returns only then. It adds
 /// claims, finishes and dos alone. Where there is no memory for a command, the command is answered so.
 pub fn work_loop<R: Wait, G: Gate>(rt: &R, device: &Device, pass: Pass, gate: &G) -> Pass
     requires pass { IsOfDevice device.now pass }
