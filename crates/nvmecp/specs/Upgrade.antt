@@ -8,7 +8,7 @@ use Rattle.nvmecp.specs.Step.{HasNoPlan, HasPlan, IsTextOf, TellsScript}
 use Rattle.nvmecp.specs.Task.{Task, max_input, never, none_denies}
 
 -- The input is a script with a plan, and the text is that of the script with version 2 and all else as the input's
--- script has it. It is accepted, and its plan is that of the input.
+-- script has it. No line of that text is faulty, and its plan is that of the input.
 pub record IsUpgrade (input text : List ℕ) : Type 0 where
   pub faultless : first_fault input ≡ None
   pub script : Script

@@ -7,7 +7,6 @@ ghost use Rattle.nvmecp.specs.Dis.{IsDisassembly};
 ghost use Rattle.nvmecp.specs.Step.{IsPrintOf};
 ghost use Rattle.nvmecp.specs.Task.{IsRefusal};
 ghost use Rattle.nvmecp.specs.Words.{task_of};
-ghost use Rattle.script_cmds.specs.Kept.{KeepsOrderAndLimits};
 ghost use Rattle.nvmecp.specs.declared.words.Asked.{Asked};
 
 /// One question and one input have one output: two texts that answer it are equal for `asm` and `dis`, two
