@@ -36,8 +36,8 @@ const PROGRAM: [u8; 48] = [
 ];
 
 /// The script of the load that a seed and a number of commands give, as its text. Host 1 makes two sets and a
-/// program ready; then four hosts send the commands, which the words of SplitMix64 choose, every fourth command
-/// one host. `NoMemory` where memory is wanting.
+/// program ready; then four hosts send the commands in turn, which the words of SplitMix64 choose. `NoMemory` where
+/// memory is wanting.
 pub fn make(alloc: Global, seed: u64, commands: u32) -> Result<Bytes, NoMemory>
     requires { commands ≤ MAX_MADE }
     ensures text { IfOk result (λ text. text.items ≡ load_text seed commands) }

@@ -29,7 +29,8 @@ use Rattle.nvmecp.specs.Check.{NoHistory, NoScript, OfParts, TellsLegal, TellsNo
 use Rattle.nvmecp.specs.Code.{code_in, hex_line}
 use Rattle.nvmecp.specs.Dis.{BadCode, IsDisassembly, NotHex, TellsCode, TooMuch}
 use Rattle.nvmecp.specs.Refusal.{breach_line, fault_line, place_line, refusal_line}
-use Rattle.nvmecp.specs.Step.{Faulty, IsHistory, IsPrintOf, IsTextOf, TellsScript, Unplanned}
+use Rattle.nvmecp.specs.Serve.{IsPrintOfHosts, IsServed, serve_task}
+use Rattle.nvmecp.specs.Step.{Faulty, IsHistory, IsPrintOf, IsPrintOfTrail, IsTextOf, TellsScript, Unplanned}
 use Rattle.nvmecp.specs.Task.{IsRefusal, Rejected, Task, TooLong}
 use Rattle.nvmecp.specs.Upgrade.{IsUpgrade}
 use Rattle.nvmecp.specs.Words.{task_of}
@@ -114,6 +115,9 @@ refused asked.Dis input one other a b = refusals_agree (task_of asked.Dis) input
 refused asked.Upgrade input one other a b = refusals_agree (task_of asked.Upgrade) input one other (tells_script input) a b
 refused asked.Check input one other a b = refusals_agree (task_of asked.Check) input one other (tells_none input) a b
 
+pub serve_refused : (input one other : List ℕ) → IsRefusal serve_task input one → IsRefusal serve_task input other → one ≡ other
+serve_refused input one other a b = refusals_agree serve_task input one other (tells_script input) a b
+
 -- ---- no input is both answered and refused
 
 assembled_or_told : (input one other : List ℕ) → IsAssembly input one → TellsAssembly input other → ⊥
@@ -131,10 +135,11 @@ disassembled_or_told input one other a (BadCode code read short bad is) =
     let well = a.printed.program.well_formed in
     absurd (false≢true (sym bad ∙ rw same at well))
 
-planned_or_told : (workers choices : ℕ) (input one other : List ℕ) → IsHistory workers choices input one → TellsScript input other → ⊥
-planned_or_told workers choices input one other a (Faulty fault is told) = not_both fault (first_fault input) a.faultless is
-planned_or_told workers choices input one other a (Unplanned script breach none read planned told) =
-    plan_or_fault a.script script a.print.plan breach (same_lines a.script script input a.read read) a.print.print.planned planned
+planned_or_told : (script : Script) (plan : List Phase) (input other : List ℕ) → first_fault input ≡ None → IsTextOf script input → plan_of script ≡ Ok plan
+    → TellsScript input other → ⊥
+planned_or_told script plan input other faultless read planned (Faulty fault is told) = not_both fault (first_fault input) faultless is
+planned_or_told script plan input other faultless read planned (Unplanned second breach none read' planned' told) =
+    plan_or_fault script second plan breach (same_lines script second input read read') planned planned'
 
 -- a result that is there
 the_plan : {A : Type 0} (r : Result A PlanFault) → IsOk r → (x : A) × (r ≡ Ok x)
@@ -164,11 +169,16 @@ ends_once task input one other short never (Rejected within told) = never other 
 
 pub one_end : (word : Asked) (input one other : List ℕ) → length input ≤ (task_of word).limit → (task_of word).Answers input one → IsRefusal (task_of word) input other → ⊥
 one_end (asked.Step workers choices) input one other short a b =
-    ends_once (task_of (asked.Step workers choices)) input one other short (λ t told. planned_or_told workers choices input one t a told) b
+    ends_once (task_of (asked.Step workers choices)) input one other short
+    (λ t told. planned_or_told a.script a.print.plan input t a.faultless a.read a.print.print.planned told) b
 one_end asked.Asm input one other short a b = ends_once (task_of asked.Asm) input one other short (λ t told. assembled_or_told input one t a told) b
 one_end asked.Dis input one other short a b = ends_once (task_of asked.Dis) input one other short (λ t told. disassembled_or_told input one t a told) b
 one_end asked.Upgrade input one other short a b = ends_once (task_of asked.Upgrade) input one other short (λ t told. upgraded_or_told input one t a told) b
 one_end asked.Check input one other short a b = ends_once (task_of asked.Check) input one other short (λ t told. legal_or_told input one t a told) b
+
+pub serve_one_end : (input one other : List ℕ) → length input ≤ serve_task.limit → serve_task.Answers input one → IsRefusal serve_task input other → ⊥
+serve_one_end input one other short a b =
+    ends_once serve_task input one other short (λ t told. planned_or_told a.script a.print.plan input t a.faultless a.read a.print.print.planned told) b
 
 -- ---- a text tells its history
 
@@ -179,13 +189,21 @@ ok_or x (Err e) = x
 same_plans : (script : Script) (plan other : List Phase) → plan_of script ≡ Ok plan → plan_of script ≡ Ok other → plan ≡ other
 same_plans script plan other is is' = ap (ok_or plan) (sym is ∙ is')
 
+-- whatever trails tell it
+told_once : (script : Script) (text : List ℕ) (plan plan' : List Phase) (trail trail' : Trail) (one : IsPrintOfTrail script plan trail text)
+    (other : IsPrintOfTrail script plan' trail' text) → one.tells.history ≡ other.tells.history
+told_once script text plan plan' trail trail' one other =
+    let c : Configuration = script.config in
+    let same : plan ≡ plan' = same_plans script plan plan' one.planned other.planned in
+    let legal : IsLegal c plan other.tells.history = subst (λ (of : List Phase). IsLegal c of other.tells.history) (sym same) other.tells.legal in
+    one-history c plan script.shows one.tells.history other.tells.history one.tells.legal legal one.sized other.sized (sym one.printed ∙ other.printed)
+
 pub one_history : (script : Script) (text : List ℕ) (workers choices others more : ℕ) (one : IsPrintOf script workers choices text)
     (other : IsPrintOf script others more text) → one.print.tells.history ≡ other.print.tells.history
-one_history script text workers choices others more one other =
-    let c : Configuration = script.config in
-    let same : one.plan ≡ other.plan = same_plans script one.plan other.plan one.print.planned other.print.planned in
-    let legal : IsLegal c one.plan other.print.tells.history = subst (λ (plan : List Phase). IsLegal c plan other.print.tells.history) (sym same) other.print.tells.legal in
-    one-history c one.plan script.shows one.print.tells.history other.print.tells.history one.print.tells.legal legal one.print.sized other.print.sized (sym one.print.printed ∙ other.print.printed)
+one_history script text workers choices others more one other = told_once script text one.plan other.plan one.trail other.trail one.print other.print
+
+pub serve_one_history : (script : Script) (text : List ℕ) (one other : IsPrintOfHosts script text) → one.print.tells.history ≡ other.print.tells.history
+serve_one_history script text one other = told_once script text one.plan other.plan one.trail other.trail one.print other.print
 
 -- ---- workers and choices select one text
 

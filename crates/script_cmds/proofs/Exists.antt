@@ -42,9 +42,11 @@ use Rattle.script_cmds.specs.declared.fault.ScriptFault.{ScriptFault}
 use Rattle.script_cmds.specs.Fault.{after_lines, fault_at, fault_from, fault_or, first_fault, judged, read_line}
 use Rattle.script_cmds.specs.Kept.{IsScriptText}
 use Rattle.script_cmds.specs.Progress.{is_start, space_of, start}
+use Rattle.script_cmds.specs.Queues.{AreExact}
 use Rattle.script_cmds.specs.Text.{configuration_lines, item_line, item_lines, lines_of, lines_text, numbers_line, part_lines, phase_lines, show_line, show_lines}
 use Rattle.script_cmds.specs.private.Drafts.{Drafted, IsDraft, draft_lines, open_lines, open_part_lines}
 use Rattle.script_cmds.specs.private.Stored.{Stored}
+use Rattle.script_cmds.proofs.Exact.{draft_exact}
 use Rattle.script_cmds.proofs.Keeping.{header_keeps}
 use Rattle.script_cmds.proofs.OneMore.{item_one_more, part_one_more, phase_one_more, show_one_more, text_one_more}
 use Rattle.script_cmds.proofs.Meanings.{take_says}
@@ -245,6 +247,11 @@ whole_lines d b =
     ap (λ (ls : List Line). (configuration_lines d.progress.form d.progress.config ++ ls) ++ show_lines d.shows) (phases_ended d.progress.form d.progress.stage d.phases d.hosts d.items)
     ∙ finished d.progress.form d.progress.stage d.progress.config (phase_lines d.progress.form d.phases) (open_lines d.progress.form d.progress.stage d.hosts d.items) (show_lines d.shows) b
 
+-- what the script says of its queues is what its lines say
+exact : (d : Drafted) → IsDraft d → AreExact (script_of d).form (script_of d).config.depth
+unfolding script_of
+exact d h = draft_exact d h
+
 pub some_script : (text : List ℕ) → first_fault text ≡ None → IsScriptText text
 unfolding nothing
 some_script text e =
@@ -256,4 +263,5 @@ some_script text e =
       spelled = ap lines_text same ∙ r.text ∙ ap (joined_by 10) (sym p.2) ∙ joined_again 10 text;
       sized = subst AreSized (sym same) r.draft.sized;
       kept = ap (λ (ls : List Line). is_ok (after_lines start ls)) same ∙ ap is_ok r.draft.counted;
+      queues = exact r.whole r.draft;
     }
