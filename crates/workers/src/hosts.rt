@@ -9,6 +9,7 @@ ghost use Rattle.device_lock.specs.Passes.{IsIdle, IsOfDevice};
 ghost use Rattle.workers.specs.Further.{IsFurther, cids_by, outstanding_by};
 
 use crate::gates::Gate;
+use crate::patience::Patience;
 use crate::serving::{Served, serve_one};
 use cp_base::Command;
 use crossbeam_utils::Backoff;
@@ -51,18 +52,24 @@ fn send<R: Wait>(rt: &R, device: &Device, pass: Pass, cid: u32, command: Arc<Com
 }
 
 // A host that waits carries out one command itself. It backs off where it finds none.
-fn wait<R: Wait, G: Gate>(rt: &R, device: &Device, pass: Pass, gate: &G, backoff: &Backoff) -> Pass
+fn wait<R: Wait, G: Gate>(
+    rt: &R,
+    device: &Device,
+    pass: Pass,
+    gate: &G,
+    patience: &mut Patience,
+) -> Pass
     requires pass { IsOfDevice device.now pass }
     requires idle { IsIdle pass }
     ensures { IsFurther 0 device.now pass result [] }
 {
     match serve_one(rt, device, pass, gate) {
         Served::Did(pass) => {
-            backoff.reset();
+            patience.reset();
             pass
         }
         Served::Nothing(pass) | Served::Rested(pass) => {
-            backoff.snooze();
+            patience.wait();
             pass
         }
     }
@@ -76,7 +83,7 @@ fn take<R: Wait, G: Gate>(rt: &R, device: &Device, pass: Pass, cid: u32, gate: &
     requires outstanding { Contains (cids_by pass) cid }
     ensures { IsFurther 0 device.now pass result (Takes cid ∷ []) }
 {
-    let backoff = Backoff::new();
+    let mut patience = Patience::new();
     let mut pass = pass;
     for _ in rt.forever() {
         match device.take(rt, pass, cid) {
@@ -85,7 +92,7 @@ fn take<R: Wait, G: Gate>(rt: &R, device: &Device, pass: Pass, cid: u32, gate: &
                 let TakeCause::NotYet = cause else {
                     unreachable!("the command is outstanding");
                 };
-                pass = wait(rt, device, back, gate, &backoff);
+                pass = wait(rt, device, back, gate, &mut patience);
             }
         }
     }

@@ -4,6 +4,7 @@
 
 mod gates;
 mod hosts;
+mod patience;
 mod phases;
 mod plans;
 mod serving;

@@ -7,7 +7,7 @@ ghost use Rattle.workers.specs.Further.{IsFurther, SeesRest};
 ghost use Rattle.workers.specs.Serving.{IsServed};
 
 use crate::gates::Gate;
-use crossbeam_utils::Backoff;
+use crate::patience::Patience;
 use device_lock::{Device, Job, Offer, Pass};
 use std::sync::Wait;
 
@@ -53,17 +53,17 @@ pub fn work_loop<R: Wait, G: Gate>(rt: &R, device: &Device, pass: Pass, gate: &G
     ensures further { IsFurther 0 device.now pass result [] }
     ensures rested { SeesRest device.now result }
 {
-    let backoff = Backoff::new();
+    let mut patience = Patience::new();
     let mut pass = pass;
     for _ in rt.forever() {
         match serve_one(rt, device, pass, gate) {
             Served::Did(back) => {
                 pass = back;
-                backoff.reset();
+                patience.reset();
             }
             Served::Nothing(back) => {
                 pass = back;
-                backoff.snooze();
+                patience.wait();
             }
             Served::Rested(back) => return back,
         }
