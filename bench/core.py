@@ -8,7 +8,7 @@ From the fastest run of so many commands that of none is taken off, which in dee
 is in all figures.
 """
 
-from bytes import plain
+from bytes import TRANSFER, plain
 from measure import TOP, best_in_turn, build, doubled
 
 NAME = "core_bench"
@@ -18,6 +18,7 @@ SMALL = ("one-place", "random", "ascending")
 DEEP = ("deep", "deep-on-one")
 MIB = 1 << 20
 SPANS = 1_000
+READS = 16_000
 
 
 def fastest(runs):
@@ -46,6 +47,17 @@ def spans():
     print(f"| a plain copy | {copy * 1e6:.1f} |")
 
 
+def reads():
+    """Times reads of the same 8,192 bytes, which are copied once in the turn and once while they are carried out, beside
+    plain copies of as many. Replies are kept, so the memory of each is new."""
+    empty, whole = (run.seconds for run in fastest([("read", 0), ("read", READS)]))
+    read, copy = (whole - empty) / READS, plain(TRANSFER, READS) / READS
+    print("| 8,192 bytes | us each |\n|---|---|")
+    print(f"| `read`: a read by a command | {read * 1e6:.3f} |")
+    print(f"| a plain copy | {copy * 1e6:.3f} |")
+    print(f"| what the command takes beside two copies | {(read - 2 * copy) * 1e6:.3f} |")
+
+
 def main():
     build(NAME)
     table(SMALL, (1_000, 2_000, 4_000, 8_000, 16_000))
@@ -53,7 +65,8 @@ def main():
     table(DEEP, (4_096, 8_192, 16_384))
     print("\nAims: at most 100 us each for `deep`; none for `deep-on-one`.\n")
     spans()
-    print("\nAim: beside its fill a command takes far less than a copy, since a buffer that was claimed before is moved.")
+    print("\nAim: beside its fill a command takes far less than a copy, since a buffer that was claimed before is moved.\n")
+    reads()
 
 
 if __name__ == "__main__":

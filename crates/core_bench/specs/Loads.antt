@@ -3,11 +3,11 @@ use Rattle.std.specs.Prelude.{◌≡◌, ℕ, ◌+◌, ◌-◌, ◌*◌, ◌/◌
 use Rattle.cp_base.specs.Configuration.{Configuration, bare, with_size}
 use Rattle.cp_base.specs.declared.commands.Command.{Command}
 use Rattle.cp_base.specs.declared.commands.Command.TheVariants as command
-use Rattle.cp_base.specs.declared.limits.TheConstants.{MAX_NAMESPACE, MAX_SPAN}
+use Rattle.cp_base.specs.declared.limits.TheConstants.{MAX_NAMESPACE, MAX_SPAN, MAX_TRANSFER}
 use Rattle.cp_base.specs.declared.region.SpaceId.TheVariants.{Mem}
 use Rattle.core_bench.specs.Progress.{ComesTo, Sent, sent_as}
 use Rattle.core_bench.specs.declared.workload.Places.{Places}
-use Rattle.core_bench.specs.declared.workload.Places.TheVariants.{One, Random, Ascending, Span}
+use Rattle.core_bench.specs.declared.workload.Places.TheVariants.{One, Random, Ascending, Span, Read}
 use Rattle.core_bench.specs.declared.workload.Workload.{Workload}
 use Rattle.core_bench.specs.declared.workload.Workload.TheVariants.{OneByOne, Deep, DeepOnOne, FillAlone}
 
@@ -23,12 +23,17 @@ command_at at = command.MemWrite 1 at (record { items = replicate 16 7; spare = 
 abbrev pub fill_at : ℕ → Command
 fill_at value = command.MemFill 1 0 MAX_SPAN value
 
+-- a read of the first bytes, as many as one read gives
+abbrev pub read_first : Command
+read_first = command.MemRead 1 0 MAX_TRANSFER
+
 -- the command of a number, or of a word where places are random
 abbrev pub command_of : Places → ℕ → ℕ → Command
 command_of One number word = command_at 0
 command_of Random number word = command_at (word % (MAX_NAMESPACE - 16))
 command_of Ascending number word = command_at (number * 64 % MAX_NAMESPACE)
 command_of Span number word = fill_at (number % 256)
+command_of Read number word = read_first
 
 -- host 1 sends the command of a number under identifier 1
 pub record IsByOne (places : Places) (number : ℕ) (sent : Sent) : Type 0 where

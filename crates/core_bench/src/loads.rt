@@ -1,12 +1,14 @@
 //! The loads.
 ghost use Rattle.std.specs.Prelude.{◌≡◌, ◌≤◌, ◌<◌, ◌+◌, ◌-◌, [], ◌∷◌, ◌++◌, IfSome, OnSome};
 ghost use Rattle.std.specs.Arc.{arc_value};
-ghost use Rattle.core_bench.specs.Loads.{IsByOne, IsInTurn, claims_where, command_at, command_of, fill_at, place_of, plain_config, sent_in_turn};
+ghost use Rattle.core_bench.specs.Loads.{IsByOne, IsInTurn, claims_where, command_at, command_of, fill_at, place_of, plain_config, read_first, sent_in_turn};
 ghost use Rattle.core_bench.specs.Progress.{AreSent, ComesTo, IsLater, open_on, over_on, sent_as, sent_on};
 
 use crate::device::Device;
 use crate::workload::Places;
-use cp_base::{Bytes, Command, Config, MAX_COMMANDS, MAX_HOSTS, MAX_NAMESPACE, MAX_SPAN, SpaceId};
+use cp_base::{
+    Bytes, Command, Config, MAX_COMMANDS, MAX_HOSTS, MAX_NAMESPACE, MAX_SPAN, MAX_TRANSFER, SpaceId,
+};
 use rand_core::SeedableRng;
 use rand_core::utils::NextWord;
 use rand_xoshiro::SplitMix64;
@@ -53,6 +55,18 @@ fn fill(alloc: Global, value: u8) -> Option<Arc<Command>>
     Arc::new(alloc, command).ok()
 }
 
+// The largest read.
+fn read(alloc: Global) -> Option<Arc<Command>>
+    ensures { IfSome result (λ command. arc_value command ≡ read_first) }
+{
+    let command = Command::MemRead {
+        ns: 1,
+        at: 0,
+        len: MAX_TRANSFER,
+    };
+    Arc::new(alloc, command).ok()
+}
+
 // The command of a number, or of a word where places are random.
 fn command(alloc: Global, places: Places, number: u32, word: u64) -> Option<Arc<Command>>
     ensures { IfSome result (λ command. arc_value command ≡ command_of places number word) }
@@ -62,6 +76,7 @@ fn command(alloc: Global, places: Places, number: u32, word: u64) -> Option<Arc<
         Places::Random => write(alloc, word % (MAX_NAMESPACE - SMALL)),
         Places::Ascending => write(alloc, u64::from(number) * NEXT % MAX_NAMESPACE),
         Places::Span => fill(alloc, (number % 256) as u8),
+        Places::Read => read(alloc),
     }
 }
 

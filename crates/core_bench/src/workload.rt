@@ -15,7 +15,7 @@ pub enum Workload {
     FillAlone,
 }
 
-/// Where the commands write.
+/// Where the commands write, or read.
 #[derive(Clone, Copy, Debug, PartialEq, Eq)]
 pub enum Places {
     /// 16 bytes at place 0.
@@ -26,6 +26,8 @@ pub enum Places {
     Ascending,
     /// The first 1 MiB.
     Span,
+    /// The first 8,192 bytes, which are read.
+    Read,
 }
 
 impl Workload {
@@ -41,6 +43,8 @@ impl Workload {
             Some(Workload::OneByOne(Places::Ascending))
         } else if word == "span" {
             Some(Workload::OneByOne(Places::Span))
+        } else if word == "read" {
+            Some(Workload::OneByOne(Places::Read))
         } else if word == "deep" {
             Some(Workload::Deep)
         } else if word == "deep-on-one" {
