@@ -1,11 +1,13 @@
 // Stands before the C library of a program and has one of its calls fail: the allocation, the read or the write of the number
-// that FAIL_ALLOCATION, FAIL_READ or FAIL_WRITE says, counted from 1. With SHORT_IO each read and write moves at most so many
-// bytes, and with INTERRUPTED each of them is interrupted so many times before it is done. At the end the file that COUNTS
-// names holds how many of each there were.
+// that FAIL_ALLOCATION, FAIL_READ or FAIL_WRITE says, counted from 1. With FAIL_THREADS no thread is made from the one of that
+// number on. With SHORT_IO each read and write moves at most so many bytes, and with INTERRUPTED each of them is interrupted
+// so many times before it is done. At the end the file that COUNTS names holds how many of each were asked for: allocations,
+// reads, writes and threads.
 #define _GNU_SOURCE
 #include <dlfcn.h>
 #include <errno.h>
 #include <fcntl.h>
+#include <pthread.h>
 #include <stdio.h>
 #include <stdlib.h>
 #include <string.h>
@@ -18,6 +20,7 @@ struct kind {
 };
 
 static struct kind allocations = {"FAIL_ALLOCATION", 0, 0}, reads = {"FAIL_READ", 0, 0}, writes = {"FAIL_WRITE", 0, 0};
+static struct kind threads = {"FAIL_THREADS", 0, 0};
 static long most, interruptions, interrupted;
 static int is_ready;
 
@@ -26,14 +29,26 @@ static long number(const char *name) {
     return text ? strtol(text, 0, 10) : 0;
 }
 
+// Which call of a kind this is, from 1; 0 where it does not count.
+static long counted(struct kind *kind) {
+    return is_ready ? __atomic_add_fetch(&kind->count, 1, __ATOMIC_SEQ_CST) : 0;
+}
+
 static int fails(struct kind *kind) {
-    return is_ready && __atomic_add_fetch(&kind->count, 1, __ATOMIC_SEQ_CST) == kind->fails;
+    long call = counted(kind);
+    return call > 0 && call == kind->fails;
+}
+
+static int fails_from_there_on(struct kind *kind) {
+    long call = counted(kind);
+    return kind->fails > 0 && call >= kind->fails;
 }
 
 __attribute__((constructor)) static void begin(void) {
     allocations.fails = number(allocations.name);
     reads.fails = number(reads.name);
     writes.fails = number(writes.name);
+    threads.fails = number(threads.name);
     most = number("SHORT_IO");
     interruptions = number("INTERRUPTED");
     is_ready = 1;
@@ -44,7 +59,7 @@ __attribute__((destructor)) static void end(void) {
     const char *name = getenv("COUNTS");
     int file = name ? open(name, O_WRONLY | O_CREAT | O_TRUNC, 0600) : -1;
     if (file >= 0)
-        dprintf(file, "%ld %ld %ld\n", allocations.count, reads.count, writes.count);
+        dprintf(file, "%ld %ld %ld %ld\n", allocations.count, reads.count, writes.count, threads.count);
 }
 
 #define REAL(name)                                                                                                             \
@@ -146,4 +161,9 @@ ssize_t write(int file, const void *from, size_t size) {
         return -1;
     }
     return real(file, from, shortened(size));
+}
+
+int pthread_create(pthread_t *thread, const pthread_attr_t *attributes, void *(*run)(void *), void *given) {
+    REAL(pthread_create);
+    return fails_from_there_on(&threads) ? EAGAIN : real(thread, attributes, run, given);
 }

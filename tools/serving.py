@@ -65,7 +65,11 @@ WORKERS = (1, 2, 3, 4, 8, 16)
 
 def served(text, workers):
     """What is wrong with a run of a script by so many workers, or None."""
-    done = run(text, ("serve", str(workers)))
+    return wrong_with(text, run(text, ("serve", str(workers))))
+
+
+def wrong_with(text, done):
+    """What is wrong with what a run of a script by threads gave, or None: it is a legal history with each command once."""
     if done.returncode != 0 or done.stderr:
         return told(done)
     read = entries(done.stdout)
