@@ -164,15 +164,30 @@ def fits(text, done):
     return None if len(read[0]) == len(re.findall(rb"^send ", text, re.M)) else f"not each command: {told(done)}"
 
 
+def confirmed(text):
+    """What is wrong with the run of a script that has to end with a whole history which `check` confirms, or None."""
+    done = run(text)
+    if done.returncode != 0:
+        return told(done)
+    return fits(text, done) or (None if is_legal(text, done.stdout) else f"no legal history: {told(done)}")
+
+
+# What is told of the stored script where it is cut at the end of one of these lines: no line at all, and a phase without hosts.
+CUT_AT_AN_END = {0: b"line 1: Order\n", 4: b"line 4: NoHosts\n"}
+
+
 def cut_anywhere(stored):
-    """The stored script, cut behind each of its bytes: a line that is not ended is told, by its number."""
+    """The stored script, cut before and behind each of its bytes: a line that is not ended is told, by its number, and at the
+    end of a line what is left is told too or carried out whole."""
     def one(length):
         text = stored[:length]
         ended = text.count(b"\n")
         if text and not text.endswith(b"\n"):
             return answered(text, 2, f"line {ended + 1}: Word\n".encode())
-        return fits(text, run(text))
-    return first_wrong(one, range(len(stored)))
+        if ended in CUT_AT_AN_END:
+            return answered(text, 2, CUT_AT_AN_END[ended])
+        return confirmed(text)
+    return first_wrong(one, range(len(stored) + 1))
 
 
 def changed_anywhere(stored):
@@ -280,10 +295,7 @@ def drawn_codes(count=200):
         words = words_from(number)
         units = 1 + next(words) % 64
         code = b"".join(next(words).to_bytes(8, "little") for _ in range(units))
-        text = execution(code.hex(), 16, 0, 1000)
-        done = run(text)
-        fits = done.returncode == 0 and not done.stderr and done.stdout.count(b"\n#") + 1 == 4 and is_legal(text, done.stdout)
-        return None if fits else told(done)
+        return confirmed(execution(code.hex(), 16, 0, 1000))
     return first_wrong(one, range(1, count + 1))
 
 
@@ -320,7 +332,7 @@ def check_hostile(note):
         note(f"{name % most}, and one more", one_limit(form, most))
     for name, text, answer in STRANGE:
         note(name, answered(text, 2, answer))
-    note(f"{len(stored)} scripts that are cut", cut_anywhere(stored))
+    note(f"{len(stored) + 1} scripts that are cut", cut_anywhere(stored))
     note(f"{len(stored)} scripts of which a byte is changed", changed_anywhere(stored))
     note("400 programs of random code", wild_programs())
     note("programs at the edges of their bytes and of code", edges())
