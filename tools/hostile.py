@@ -14,7 +14,7 @@ from concurrent.futures import ThreadPoolExecutor
 
 from crates import TOP
 from inputs import (
-    MOST_BYTES, STRANGE, VERSION_1, VERSION_2, all_limits, all_limits_of_version_2, filled_memory, many_lines, script,
+    MOST_BYTES, STRANGE, VERSION_1, VERSION_2, all_limits, filled_memory, long_reads, many_lines, one_too_many, script,
 )
 from loads import words_from
 
@@ -106,12 +106,6 @@ def every_limit_at_once(version):
     if not read or len(read[0]) != version.sends or len(read[1]) != version.shows:
         return told(done)
     return answered(all_limits(version, length=MOST_BYTES + 1), 2, b"too long\n")
-
-
-def one_past(line, text):
-    """A script that has one line more than may be of a kind is refused at the last of them."""
-    at = max(place for place, it in enumerate(text.split(b"\n"), 1) if it.startswith(line))
-    return answered(text, 2, f"line {at}: Limit\n".encode())
 
 
 LIMITS = (
@@ -304,9 +298,8 @@ def drawn_codes(count=200):
 
 def closed_pipe():
     """The reader of the output leaves after its first bytes: a failed write, and no other end."""
-    text = script("mem 1 bytes=8192", "phase", "host 1", *(it for _ in range(64) for it in ("send 1 memread ns=1 at=0 len=8192", "take 1")))
     with subprocess.Popen([PROGRAM, "step", "1", "0"], stdin=subprocess.PIPE, stdout=subprocess.PIPE, stderr=subprocess.PIPE) as it:
-        it.stdin.write(text)
+        it.stdin.write(long_reads(64))
         it.stdin.close()
         it.stdout.read(100)
         it.stdout.close()
@@ -324,13 +317,9 @@ def check_hostile(note):
     for number, version in enumerate((VERSION_1, VERSION_2), 1):
         note(f"64 MiB of memory, filled from end to end, version {number}", all_memory(version))
         note(f"every limit of a script of version {number} at once, and one byte more", every_limit_at_once(version))
-    for make, version, number in ((all_limits, VERSION_1, 1), (all_limits_of_version_2, VERSION_2, 2)):
-        note(f"one send too many, version {number}", one_past(b"send", make(sends=version.sends + 1, length=0)))
-        note(f"one phase too many, version {number}", one_past(b"phase", make(phases=version.phases + 1, length=0)))
-        note(f"one show too many, version {number}", one_past(b"show", make(shows=version.shows + 1, length=0)))
     for name, form, most in LIMITS:
         note(f"{name % most}, and one more", one_limit(form, most))
-    for name, text, answer in STRANGE:
+    for name, text, answer in (*one_too_many(), *STRANGE):
         note(name, answered(text, 2, answer))
     note(f"{len(stored) + 1} scripts that are cut", cut_anywhere(stored))
     note(f"{len(stored)} scripts of which a byte is changed", changed_anywhere(stored))
