@@ -1,7 +1,7 @@
 // Stands before the C library of a program and has one of its calls fail: the allocation, the read or the write of the number
 // that FAIL_ALLOCATION, FAIL_READ or FAIL_WRITE says, counted from 1. With SHORT_IO each read and write moves at most so many
 // bytes, and with INTERRUPTED each of them is interrupted so many times before it is done. At the end the file that COUNTS
-// names holds how many of each there were.
+// names holds how many allocations, reads and writes there were, how many calls failed and how many were interrupted.
 #define _GNU_SOURCE
 #include <dlfcn.h>
 #include <errno.h>
@@ -18,7 +18,7 @@ struct kind {
 };
 
 static struct kind allocations = {"FAIL_ALLOCATION", 0, 0}, reads = {"FAIL_READ", 0, 0}, writes = {"FAIL_WRITE", 0, 0};
-static long most, interruptions, interrupted;
+static long failed, most, interruptions, interrupted, all_interrupted;
 static int is_ready;
 
 static long number(const char *name) {
@@ -27,7 +27,10 @@ static long number(const char *name) {
 }
 
 static int fails(struct kind *kind) {
-    return is_ready && __atomic_add_fetch(&kind->count, 1, __ATOMIC_SEQ_CST) == kind->fails;
+    int is_it = is_ready && __atomic_add_fetch(&kind->count, 1, __ATOMIC_SEQ_CST) == kind->fails;
+    if (is_it)
+        __atomic_add_fetch(&failed, 1, __ATOMIC_SEQ_CST);
+    return is_it;
 }
 
 __attribute__((constructor)) static void begin(void) {
@@ -44,7 +47,7 @@ __attribute__((destructor)) static void end(void) {
     const char *name = getenv("COUNTS");
     int file = name ? open(name, O_WRONLY | O_CREAT | O_TRUNC, 0600) : -1;
     if (file >= 0)
-        dprintf(file, "%ld %ld %ld\n", allocations.count, reads.count, writes.count);
+        dprintf(file, "%ld %ld %ld %ld %ld\n", allocations.count, reads.count, writes.count, failed, all_interrupted);
 }
 
 #define REAL(name)                                                                                                             \
@@ -114,6 +117,7 @@ static int is_interrupted(void) {
         return 0;
     }
     interrupted += 1;
+    all_interrupted += 1;
     errno = EINTR;
     return 1;
 }

@@ -4,7 +4,8 @@ and each write of the stored run in turn, and each allocation of its script by t
 
     python3 tools/faults.py
 
-tools/failing.c is compiled and stands before the C library. Where there is no C compiler, nothing is tried.
+tools/failing.c is compiled and stands before the C library. Where there is no C compiler, nothing is tried. The last line
+tells how many calls were refused, failed, came short and were interrupted, as tools/failing.c has counted them.
 """
 
 import os
@@ -13,6 +14,7 @@ import subprocess
 import sys
 import tempfile
 from concurrent.futures import ThreadPoolExecutor
+from dataclasses import dataclass
 from pathlib import Path
 
 from crates import TOP
@@ -28,6 +30,18 @@ PATIENCE = 120
 NO_MEMORY, READ_FAULT, WRITE_FAULT = 5, 3, 4
 
 
+@dataclass(frozen=True)
+class Counts:
+    """How many allocations, reads and writes of a run tools/failing.c has seen, how many of them it has failed, and how many
+    reads and writes it has interrupted before they were done."""
+
+    allocations: int = 0
+    reads: int = 0
+    writes: int = 0
+    failed: int = 0
+    interrupted: int = 0
+
+
 class Faults:
     """The stored run with a library before the C library that has one of its calls fail."""
 
@@ -39,16 +53,13 @@ class Faults:
         words = [compiler, "-O1", "-shared", "-fPIC", "-o", self.library, source, "-ldl"]
         self.is_built = compiler is not None and subprocess.run(words, check=False).returncode == 0
 
-    def run(self, words, script=SCRIPT, **settings):
-        """What the program answers to a script with these settings of tools/failing.c."""
-        how = {"env": {**os.environ, **settings, "LD_PRELOAD": str(self.library)}, "timeout": PATIENCE}
-        return subprocess.run([PROGRAM, *words], input=script, capture_output=True, check=False, **how)
-
-    def counts(self, words):
-        """How many allocations, reads and writes a run has in which none fails."""
-        file = self.room / "counts"
-        self.run(words, COUNTS=str(file))
-        return tuple(map(int, file.read_text(encoding="utf-8").split()))
+    def run(self, words, **settings):
+        """What the program answers to the stored script with these settings of tools/failing.c, and the counts of the run: all
+        0 where it told none."""
+        with tempfile.NamedTemporaryFile(dir=self.room) as counts:
+            env = {**os.environ, **settings, "LD_PRELOAD": str(self.library), "COUNTS": counts.name}
+            done = subprocess.run([PROGRAM, *words], input=SCRIPT, capture_output=True, check=False, env=env, timeout=PATIENCE)
+            return done, Counts(*map(int, counts.read().split()))
 
 
 def told(done):
@@ -86,26 +97,35 @@ def check_faults(note):
         if not faults.is_built:
             print("not tried: refused memory and failing reads and writes, since there is no C compiler", flush=True)
             return
-        allocations, reads, writes = faults.counts(WORDS)
-        by_threads, _, _ = faults.counts(THREADS)
+        _, by_schedule = faults.run(WORDS)
+        _, by_threads = faults.run(THREADS)
 
         def each(words, count, setting, judge):
-            tries = pool.map(lambda number: (number, judge(faults.run(words, **{setting: str(number)}))), range(1, count + 1))
-            return "; ".join(f"at {number}: {wrong}" for number, wrong in tries if wrong)[:400] or None
+            """What is wrong where each of so many calls fails in turn, and how many did."""
+            def one(number):
+                done, counts = faults.run(words, **{setting: str(number)})
+                return number, judge(done), counts.failed
+            tries = list(pool.map(one, range(1, count + 1)))
+            wrong = "; ".join(f"at {number}: {it}" for number, it, _ in tries if it)[:400]
+            return wrong or None, sum(failed for _, _, failed in tries)
 
+        tried = []
         for run, words, what, count, setting, judge in (
-            ("the stored run", WORDS, "allocation", allocations, "FAIL_ALLOCATION", without_memory),
-            ("the stored run", WORDS, "read", reads, "FAIL_READ", with_read_fault),
-            ("the stored run", WORDS, "write", writes, "FAIL_WRITE", with_write_fault),
-            ("its script by threads", THREADS, "allocation", by_threads, "FAIL_ALLOCATION", without_memory),
+            ("the stored run", WORDS, "allocation", by_schedule.allocations, "FAIL_ALLOCATION", without_memory),
+            ("the stored run", WORDS, "read", by_schedule.reads, "FAIL_READ", with_read_fault),
+            ("the stored run", WORDS, "write", by_schedule.writes, "FAIL_WRITE", with_write_fault),
+            ("its script by threads", THREADS, "allocation", by_threads.allocations, "FAIL_ALLOCATION", without_memory),
         ):
-            wrong = each(words, count, setting, judge) if count else "there is none"
+            wrong, failed = each(words, count, setting, judge) if count else ("there is none", 0)
             note(f"{run}, each {what} fails in turn ({count})", wrong)
-        for what, settings in (
-            ("each read and write moves one byte", {"SHORT_IO": "1"}),
-            ("each read and write is interrupted a hundred times", {"INTERRUPTED": "100"}),
-        ):
-            note(f"the stored run, {what}", whole(faults.run(WORDS, **settings)))
+            tried.append(f"{failed} failed {what}s by {words[0]}")
+        done, counts = faults.run(WORDS, SHORT_IO="1")
+        note("the stored run, each read and write moves one byte", whole(done))
+        tried.append(f"{counts.reads} reads and {counts.writes} writes of at most one byte")
+        done, counts = faults.run(WORDS, INTERRUPTED="100")
+        note("the stored run, each read and write is interrupted a hundred times", whole(done))
+        tried.append(f"{counts.interrupted} interrupted calls")
+        print(f"tried: {', '.join(tried)}", flush=True)
 
 
 def main():
