@@ -71,22 +71,41 @@ def run_together(words, data, count):
     return Run(seconds, sum(it.ru_utime for it in usages), max(it.ru_maxrss for it in usages), 0, b"")
 
 
-def run_under_time(command, data, keep=False):
-    """One run of a command on these bytes under GNU time, whose text is kept or not. Its peak memory is its own, since
-    GNU time, which starts it, is small; its seconds have the start of GNU time in them, about a millisecond."""
+def timed(command, data, sink, most=0):
+    """One run of a command on these bytes under GNU time, whose text goes to a file, or into a pipe of which so many
+    bytes are read before it is closed."""
     if not TIME.exists():
         sys.exit(f"{TIME} is missing: without GNU time (the package `time`) no peak memory can be told")
-    with tempfile.TemporaryFile() as source, tempfile.TemporaryFile() as sink, tempfile.NamedTemporaryFile() as report:
+    with tempfile.TemporaryFile() as source, tempfile.NamedTemporaryFile() as report:
         source.write(data)
         source.seek(0)
         began = time.perf_counter()
-        timed = [TIME, "-f", "%M %U", "-o", report.name, *command]
-        done = subprocess.run(timed, stdin=source, stdout=sink, cwd=TOP, check=False)
+        words = [TIME, "-f", "%M %U", "-o", report.name, *command]
+        child = subprocess.Popen(words, stdin=source, stdout=sink, cwd=TOP)
+        text = b""
+        if child.stdout:
+            text = child.stdout.read(most)
+            child.stdout.close()
+        status = child.wait()
         seconds = time.perf_counter() - began
         # (a line before the last tells of a status that is not 0)
         peak_kib, busy = report.read().splitlines()[-1].split()
+        return Run(seconds, float(busy), int(peak_kib), status, text)
+
+
+def run_under_time(command, data, keep=False):
+    """One run of a command on these bytes under GNU time, whose text is kept or not. Its peak memory is its own, since
+    GNU time, which starts it, is small; its seconds have the start of GNU time in them, about a millisecond."""
+    with tempfile.TemporaryFile() as sink:
+        run = timed(command, data, sink)
         sink.seek(0)
-        return Run(seconds, float(busy), int(peak_kib), done.returncode, sink.read() if keep else b"")
+        run.text = sink.read() if keep else b""
+        return run
+
+
+def left_under_time(command, data, most):
+    """The same where whoever reads the text leaves after so many bytes; these are kept."""
+    return timed(command, data, subprocess.PIPE, most)
 
 
 def peak_mib(command, data, status=0):

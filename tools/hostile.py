@@ -14,7 +14,7 @@ from concurrent.futures import ThreadPoolExecutor
 
 from crates import TOP
 from inputs import (
-    MOST_BYTES, STRANGE, VERSION_1, VERSION_2, all_limits, all_limits_of_version_2, filled_memory, many_lines, script,
+    MOST_BYTES, STRANGE, VERSION_1, VERSION_2, all_limits, filled_memory, long_reads, many_lines, one_too_many, script,
 )
 from loads import words_from
 
@@ -108,12 +108,6 @@ def every_limit_at_once(version):
     return answered(all_limits(version, length=MOST_BYTES + 1), 2, b"too long\n")
 
 
-def one_past(line, text):
-    """A script that has one line more than may be of a kind is refused at the last of them."""
-    at = max(place for place, it in enumerate(text.split(b"\n"), 1) if it.startswith(line))
-    return answered(text, 2, f"line {at}: Limit\n".encode())
-
-
 LIMITS = (
     ("depth=%s", "nvmecp 1 block=512 depth={} budget=1\nmem 1 bytes=1\nphase\nhost 1\n", 256),
     ("budget=%s", "nvmecp 1 block=512 depth=1 budget={}\nmem 1 bytes=1\nphase\nhost 1\n", 10_000_000),
@@ -164,15 +158,30 @@ def fits(text, done):
     return None if len(read[0]) == len(re.findall(rb"^send ", text, re.M)) else f"not each command: {told(done)}"
 
 
+def confirmed(text):
+    """What is wrong with the run of a script that has to end with a whole history which `check` confirms, or None."""
+    done = run(text)
+    if done.returncode != 0:
+        return told(done)
+    return fits(text, done) or (None if is_legal(text, done.stdout) else f"no legal history: {told(done)}")
+
+
+# What is told of the stored script where it is cut at the end of one of these lines: no line at all, and a phase without hosts.
+CUT_AT_AN_END = {0: b"line 1: Order\n", 4: b"line 4: NoHosts\n"}
+
+
 def cut_anywhere(stored):
-    """The stored script, cut behind each of its bytes: a line that is not ended is told, by its number."""
+    """The stored script, cut before and behind each of its bytes: a line that is not ended is told, by its number, and at the
+    end of a line what is left is told too or carried out whole."""
     def one(length):
         text = stored[:length]
         ended = text.count(b"\n")
         if text and not text.endswith(b"\n"):
             return answered(text, 2, f"line {ended + 1}: Word\n".encode())
-        return fits(text, run(text))
-    return first_wrong(one, range(len(stored)))
+        if ended in CUT_AT_AN_END:
+            return answered(text, 2, CUT_AT_AN_END[ended])
+        return confirmed(text)
+    return first_wrong(one, range(len(stored) + 1))
 
 
 def changed_anywhere(stored):
@@ -280,10 +289,7 @@ def drawn_codes(count=200):
         words = words_from(number)
         units = 1 + next(words) % 64
         code = b"".join(next(words).to_bytes(8, "little") for _ in range(units))
-        text = execution(code.hex(), 16, 0, 1000)
-        done = run(text)
-        fits = done.returncode == 0 and not done.stderr and done.stdout.count(b"\n#") + 1 == 4 and is_legal(text, done.stdout)
-        return None if fits else told(done)
+        return confirmed(execution(code.hex(), 16, 0, 1000))
     return first_wrong(one, range(1, count + 1))
 
 
@@ -292,9 +298,8 @@ def drawn_codes(count=200):
 
 def closed_pipe():
     """The reader of the output leaves after its first bytes: a failed write, and no other end."""
-    text = script("mem 1 bytes=8192", "phase", "host 1", *(it for _ in range(64) for it in ("send 1 memread ns=1 at=0 len=8192", "take 1")))
     with subprocess.Popen([PROGRAM, "step", "1", "0"], stdin=subprocess.PIPE, stdout=subprocess.PIPE, stderr=subprocess.PIPE) as it:
-        it.stdin.write(text)
+        it.stdin.write(long_reads(64))
         it.stdin.close()
         it.stdout.read(100)
         it.stdout.close()
@@ -312,15 +317,11 @@ def check_hostile(note):
     for number, version in enumerate((VERSION_1, VERSION_2), 1):
         note(f"64 MiB of memory, filled from end to end, version {number}", all_memory(version))
         note(f"every limit of a script of version {number} at once, and one byte more", every_limit_at_once(version))
-    for make, version, number in ((all_limits, VERSION_1, 1), (all_limits_of_version_2, VERSION_2, 2)):
-        note(f"one send too many, version {number}", one_past(b"send", make(sends=version.sends + 1, length=0)))
-        note(f"one phase too many, version {number}", one_past(b"phase", make(phases=version.phases + 1, length=0)))
-        note(f"one show too many, version {number}", one_past(b"show", make(shows=version.shows + 1, length=0)))
     for name, form, most in LIMITS:
         note(f"{name % most}, and one more", one_limit(form, most))
-    for name, text, answer in STRANGE:
+    for name, text, answer in (*one_too_many(), *STRANGE):
         note(name, answered(text, 2, answer))
-    note(f"{len(stored)} scripts that are cut", cut_anywhere(stored))
+    note(f"{len(stored) + 1} scripts that are cut", cut_anywhere(stored))
     note(f"{len(stored)} scripts of which a byte is changed", changed_anywhere(stored))
     note("400 programs of random code", wild_programs())
     note("programs at the edges of their bytes and of code", edges())

@@ -1,5 +1,5 @@
-"""Scripts at their limits, and inputs that are none: tools/hostile.py tries the program with them, and bench/limits.py
-measures it."""
+"""Scripts at their limits and one past them, of many hosts, and inputs that are no scripts: tools/hostile.py and
+tools/serving.py try the program with them, and bench/limits.py measures it."""
 
 from dataclasses import dataclass
 
@@ -60,6 +60,24 @@ def many_lines(version=VERSION_1, outstanding=1):
     return text_of([*lines, "show mem 1 at=0 len=16"])
 
 
+def many_hosts(each=16):
+    """16 hosts that fill the same bytes, write and read, and one that sums them up."""
+    lines = ["mem 1 bytes=64", "phase", "host 1", "send 1 setcreate ranges=1:0:64", "phase"]
+    for host in range(1, 17):
+        lines.append(f"host {host}")
+        for number in range(each // 4):
+            lines += [f"send 1 memfill ns=1 at=0 len=64 value={host}", f"send 2 memwrite ns=1 at={host} data={number:02x}"]
+            lines += ["send 3 memread ns=1 at=0 len=64", f"send 4 execute slot=65 set={host % 2} p1=64 p2=0 budget=1000"]
+            lines += ["take 4", "take 3", "take 1", "take 2"]
+    return script(*lines, "show mem 1 at=0 len=64")
+
+
+def long_reads(count):
+    """So many reads of 8,192 bytes, whose text has twice as many digits."""
+    lines = ("send 1 memread ns=1 at=0 len=8192", "take 1")
+    return script("mem 1 bytes=8192", "phase", "host 1", *(lines * count))
+
+
 def filled_memory(version=VERSION_1):
     """Four namespaces of 16 MiB, filled from end to end by 1 MiB at a time: the script, and what is printed."""
     lines = [version.header, *(f"mem {it} bytes={NAMESPACE}" for it in range(1, 5)), "phase", "host 1"]
@@ -101,9 +119,17 @@ def all_limits(version=VERSION_1, sends=None, phases=None, shows=None, length=MO
     return text_of(lines)
 
 
-def all_limits_of_version_2(**more):
-    """The same of version 2."""
-    return all_limits(VERSION_2, **more)
+def one_too_many():
+    """For both versions and each kind of line of which there may be only so many: a name, a script that has one line more,
+    and what is told of it, which is the last of these lines."""
+    for number, version in enumerate((VERSION_1, VERSION_2), 1):
+        for word, text in (
+            ("send", all_limits(version, sends=version.sends + 1, length=0)),
+            ("phase", all_limits(version, phases=version.phases + 1, length=0)),
+            ("show", all_limits(version, shows=version.shows + 1, length=0)),
+        ):
+            last = text.count(b"\n", 0, text.rindex(f"\n{word}".encode()) + 1) + 1
+            yield f"one {word} too many, version {number}", text, f"line {last}: Limit\n".encode()
 
 
 MANY_SOURCES = "send 1 memcopy ns=1 at=0 from=" + "m1:0:1," * 300_000 + "m1:0:1"

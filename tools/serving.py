@@ -12,7 +12,7 @@ import time
 
 from crates import TOP
 from hostile import entries, is_legal, run, told
-from inputs import script
+from inputs import many_hosts, script
 
 STORED = (TOP / "crates" / "nvmecp" / "stdin").read_bytes()
 TOTAL = 100
@@ -20,18 +20,6 @@ TOTAL = 100
 
 def two_fills():
     return (TOP / "examples" / "overlapping-fills.script").read_bytes()
-
-
-def many_hosts(each=16):
-    """16 hosts that fill the same bytes, write and read, and one that sums them up."""
-    lines = ["mem 1 bytes=64", "phase", "host 1", "send 1 setcreate ranges=1:0:64", "phase"]
-    for host in range(1, 17):
-        lines.append(f"host {host}")
-        for number in range(each // 4):
-            lines += [f"send 1 memfill ns=1 at=0 len=64 value={host}", f"send 2 memwrite ns=1 at={host} data={number:02x}"]
-            lines += ["send 3 memread ns=1 at=0 len=64", f"send 4 execute slot=65 set={host % 2} p1=64 p2=0 budget=1000"]
-            lines += ["take 4", "take 3", "take 1", "take 2"]
-    return script(*lines, "show mem 1 at=0 len=64")
 
 
 def aborts():
