@@ -183,19 +183,30 @@ fn a_text_is_offered_until_all_is_taken(rt: HostRuntime) {
     expect_offered(&rt, rt.alloc(), 0, b"", false);
 }
 
-// Interrupts, gives or takes one byte, fails, and then is at its end.
+// Interrupts thousands of times, gives or takes one byte, fails, and then is at its end.
 #[derive(Drop)]
 struct Stumbling {
+    interruptions: u32,
     turn: u8,
 }
 
 impl Stumbling {
+    fn new() -> Self {
+        Stumbling {
+            interruptions: 5_000,
+            turn: 0,
+        }
+    }
+
     fn next(&mut self) -> io::Result<usize> {
+        if let Some(left) = self.interruptions.checked_sub(1) {
+            self.interruptions = left;
+            return Err(ErrorKind::Interrupted.into());
+        }
         self.turn = self.turn.saturating_add(1);
         match self.turn {
-            1 => Err(ErrorKind::Interrupted.into()),
-            2 => Ok(1),
-            3 => Err(ErrorKind::Other.into()),
+            1 => Ok(1),
+            2 => Err(ErrorKind::Other.into()),
             _ => Ok(0),
         }
     }
@@ -221,12 +232,12 @@ impl Write for Stumbling {
 
 #[test]
 fn interruptions_are_tried_again(rt: HostRuntime) {
-    let mut source = StdSource::new(Stumbling { turn: 0 });
+    let mut source = StdSource::new(Stumbling::new());
     expect_read(&rt, &mut source, Got::Count(1), &[0]);
     expect_read(&rt, &mut source, Got::Failed, b"");
     expect_read(&rt, &mut source, Got::End, b"");
 
-    let mut sink = StdSink::new(Stumbling { turn: 0 });
+    let mut sink = StdSink::new(Stumbling::new());
     expect_write(&rt, &mut sink, b"abcd", Took::Count(1));
     expect_write(&rt, &mut sink, b"abcd", Took::Failed);
     expect_write(&rt, &mut sink, b"abcd", Took::Failed);

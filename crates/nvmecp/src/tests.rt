@@ -52,7 +52,7 @@ fn given(alloc: Global, words: &str, input: &str, output: &str) -> Option<(u8, b
 }
 
 // What an input gives: the status, and the text that is written.
-const CASES: [(&str, u8, &str); 35] = [
+const CASES: [(&str, u8, &str); 37] = [
     (
         WRITE,
         0,
@@ -221,6 +221,17 @@ const CASES: [(&str, u8, &str); 35] = [
         "nvmecp 1 block=512 depth=16 budget=1000\nmem 1 bytes=16\nphase\nhost 1\nsend 1 load slot=0 size=8 at=0 data=ff00000000000000\ntake 1\nsend 2 activate slot=0\ntake 2\nsend 3 setcreate ranges=1:0:1\ntake 3\nsend 4 execute slot=0 set=1 p1=0 p2=0 budget=10\ntake 4\nsend 5 unload slot=0\ntake 5\nsend 6 load slot=0 size=16 at=0 data=b7000000010000001800000000000000\ntake 6\nsend 7 activate slot=0\ntake 7\nsend 8 execute slot=68 set=1 p1=0 p2=0 budget=10\ntake 8\n",
         0,
         "#1 h1 n1 c1 load Ok r=0 d=\n#2 h1 n2 c2 activate BadProgram r=0 d=\n#3 h1 n3 c3 setcreate Ok r=1 d=\n#4 h1 n4 c4 execute SlotInactive r=0 d=\n#5 h1 n5 c5 unload Ok r=0 d=\n#6 h1 n6 c6 load Ok r=0 d=\n#7 h1 n7 c7 activate BadProgram r=1 d=\n#8 h1 n8 c8 execute NoSuchSlot r=0 d=\n",
+    ),
+    // Programs of the device whose second range may only be read, and that have one range only.
+    (
+        "nvmecp 1 block=512 depth=16 budget=1000\nmem 1 bytes=32\nphase\nhost 1\nsend 1 memwrite ns=1 at=0 data=000102030405060708090a0b0c0d0e0f\ntake 1\nsend 2 setcreate ranges=1:0:16,1:16:16:r\ntake 2\nsend 3 execute slot=66 set=1 p1=0 p2=0 budget=16\ntake 3\nsend 4 execute slot=67 set=1 p1=3 p2=5 budget=16\nshow mem 1 at=16 len=16\n",
+        0,
+        "#1 h1 n1 c1 memwrite Ok r=0 d=\n#2 h1 n2 c2 setcreate Ok r=1 d=\n#3 h1 n3 c3 execute Ok r=1 d=\n#4 h1 n4 c4 execute BadAccess r=0 d=\nshow mem 1 at=16 len=16 d=00000000000000000000000000000000\n",
+    ),
+    (
+        "nvmecp 1 block=512 depth=16 budget=1000\nmem 1 bytes=32\nphase\nhost 1\nsend 1 memwrite ns=1 at=0 data=000102030405060708090a0b0c0d0e0f\ntake 1\nsend 2 setcreate ranges=1:0:16\ntake 2\nsend 3 execute slot=66 set=1 p1=0 p2=0 budget=16\ntake 3\nsend 4 execute slot=67 set=1 p1=3 p2=5 budget=16\nshow mem 1 at=0 len=16\n",
+        0,
+        "#1 h1 n1 c1 memwrite Ok r=0 d=\n#2 h1 n2 c2 setcreate Ok r=1 d=\n#3 h1 n3 c3 execute Ok r=18446744073709551615 d=\n#4 h1 n4 c4 execute Ok r=0 d=\nshow mem 1 at=0 len=16 d=000102030405060708090a0b0c0d0e0f\n",
     ),
     // NVM namespaces stand before those of memory.
     (

@@ -28,6 +28,10 @@ fn loads_are_confined(rt: HostRuntime) {
     for (address, size, number) in [
         (0x1_0000_0000, Size::D, Some(0x0807_0605_0403_0201)),
         (0x1_0000_0003, Size::W, Some(0x0706_0504)),
+        (0x1_0000_0001, Size::D, None),
+        (0x1_0000_0004, Size::W, Some(0x0807_0605)),
+        (0x1_0000_0005, Size::W, None),
+        (0x1_0000_0006, Size::H, Some(0x0807)),
         (0x1_0000_0007, Size::B, Some(8)),
         (0x1_0000_0007, Size::H, None),
         (0x1_0000_0008, Size::B, None),
@@ -35,6 +39,8 @@ fn loads_are_confined(rt: HostRuntime) {
         (0xffff_ffff, Size::H, None),
         (0x2_0000_0000, Size::D, None),
         (0x2_0000_0003, Size::W, Some(0x1110_0f0e)),
+        (0x2_0000_0004, Size::W, None),
+        (0x2_0000_0005, Size::H, Some(0x1110)),
         (0x2_0000_0006, Size::B, Some(17)),
         (0x2_0000_0006, Size::H, None),
         (0x3_0000_0000, Size::B, None),
@@ -92,6 +98,54 @@ fn stores_are_confined(rt: HostRuntime) {
             Some((done, Some(number))),
             "{size:?} at {address:#x}"
         );
+    }
+}
+
+// A view of two writable windows, of 1 byte and of 7.
+fn small_windows(alloc: Global) -> Option<View> {
+    let first = Window {
+        bytes: Bytes::from_slice(alloc, &[21]).ok()?,
+        writable: true,
+    };
+    let second = Window {
+        bytes: Bytes::from_slice(alloc, &[11, 12, 13, 14, 15, 16, 17]).ok()?,
+        writable: true,
+    };
+    let stack = Bytes::filled(alloc, 4096, 0).ok()?;
+    Some(View::new(vec![in alloc; first, second].ok()?, stack))
+}
+
+// Whether a store is done, and what is loaded from its place afterwards.
+fn stored_and_loaded(alloc: Global, address: u64, size: Size) -> Option<(bool, Option<u64>)> {
+    let mut view = small_windows(alloc)?;
+    let done = view.store(address, size, 0xf0f1_f2f3_f4f5_f6f7).is_some();
+    Some((done, view.load(address, size)))
+}
+
+#[test]
+fn small_windows_are_confined(rt: HostRuntime) {
+    let first = 0x1_0000_0000;
+    let second = 0x2_0000_0000;
+    for (address, size, number) in [
+        (first, Size::B, Some(0xf7)),
+        (first, Size::H, None),
+        (first, Size::W, None),
+        (first, Size::D, None),
+        (first + 1, Size::B, None),
+        (second, Size::B, Some(0xf7)),
+        (second, Size::H, Some(0xf6f7)),
+        (second, Size::W, Some(0xf4f5_f6f7)),
+        (second, Size::D, None),
+        (second + 3, Size::W, Some(0xf4f5_f6f7)),
+        (second + 4, Size::W, None),
+        (second + 5, Size::H, Some(0xf6f7)),
+        (second + 6, Size::H, None),
+        (second + 6, Size::B, Some(0xf7)),
+        (second + 7, Size::B, None),
+    ] {
+        let found = stored_and_loaded(rt.alloc(), address, size);
+        let told = Some((number.is_some(), number));
+        assert_eq!(rt; found, told, "{size:?} at {address:#x}");
     }
 }
 

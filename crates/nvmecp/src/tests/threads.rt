@@ -38,7 +38,7 @@ fn served<R: Threads + Wait + Sync, G: Gate>(
 }
 
 // Whether a text is that of a legal history of a script.
-fn is_legal(alloc: Global, script: &str, text: &[u8]) -> Option<bool> {
+pub(super) fn is_legal(alloc: Global, script: &str, text: &[u8]) -> Option<bool> {
     let mut input = Vec::from_slice(alloc, script.as_bytes()).ok()?;
     input.push(b'\n').ok()?;
     input.extend_from_slice(text).ok()?;

@@ -622,6 +622,24 @@ const ABORT_WITHDRAWN: [Step; 13] = [
     Step::Take(1, 1, Ok(5)),
 ];
 
+// An Abort is withdrawn, and then another one withdraws the fill that both name.
+const WITHDRAWN_BY_ANOTHER: [Step; 14] = [
+    Step::Send(1, 1, Asks::Fill(0, 4, 1), Ok(0)),
+    Step::Send(1, 2, Asks::Abort(1), Ok(1)),
+    Step::Send(1, 3, Asks::Abort(2), Ok(2)),
+    Step::Send(1, 4, Asks::Abort(1), Ok(3)),
+    Step::Turn(17, 2, Turn::Did),
+    Step::Entry(0, 1, 3, Status::Ok, 0),
+    Step::Entry(1, 1, 2, Status::Aborted, 0),
+    Step::Turn(17, 1, Turn::Did),
+    Step::Entry(2, 1, 4, Status::Ok, 0),
+    Step::Entry(3, 1, 1, Status::Aborted, 0),
+    Step::Pickable(0),
+    Step::Byte(0, Some(0)),
+    Step::Take(1, 2, Ok(4)),
+    Step::Take(1, 1, Ok(5)),
+];
+
 // Of two Aborts of one fill the first that is done withdraws it. An Abort of its own identifier names nothing.
 const NAMED_TWICE: [Step; 14] = [
     Step::Send(1, 1, Asks::Fill(0, 4, 1), Ok(0)),
@@ -663,6 +681,10 @@ fn commands_of_each_kind_are_withdrawn(rt: HostRuntime) {
         ("an execute", EXECUTION_WITHDRAWN.as_slice()),
         ("a fill that meets a claim", BLOCKED.as_slice()),
         ("an Abort", ABORT_WITHDRAWN.as_slice()),
+        (
+            "an Abort, and then its fill",
+            WITHDRAWN_BY_ANOTHER.as_slice(),
+        ),
     ] {
         assert_eq!(rt;
             followed(rt.alloc(), 16, 7, steps),
