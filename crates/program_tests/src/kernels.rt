@@ -1,6 +1,5 @@
 // Each kernel beside its plain loop, at lengths around that of a vector, and what it gives at the edges.
 use builtin_programs::{count_byte, first_difference, mark_class, sum_bytes};
-use std::alloc::Global;
 
 // The byte at a place, of a pattern in which many bytes come several times.
 fn patterned(i: usize) -> u8 {
@@ -66,55 +65,6 @@ fn kernels_do_as_plain_loops(rt: HostRuntime) {
             "{len} bytes"
         );
     }
-}
-
-const MIB: usize = 1_048_576;
-
-// 1 MiB of the pattern.
-fn long_pattern(alloc: Global) -> Option<Vec<u8>> {
-    let mut bytes = Vec::new(alloc);
-    for i in 0..MIB {
-        bytes.push(patterned(i)).ok()?;
-    }
-    Some(bytes)
-}
-
-// Whether marks are those of the bytes of a class.
-fn are_marks(bytes: &[u8], marks: &[u8], low: u8, high: u8) -> bool {
-    for (i, byte) in bytes.iter().enumerate() {
-        let is_in = low <= *byte && *byte <= high;
-        if i >= marks.len() || marks[i] != u8::from(is_in) {
-            return false;
-        }
-    }
-    true
-}
-
-// Whether each kernel does over 1 MiB as its plain loop.
-fn long_kernels(alloc: Global) -> Option<bool> {
-    let bytes = long_pattern(alloc)?;
-    let (inside, total, _) = plainly(&bytes, 3, 6);
-    let (equal, _, _) = plainly(&bytes, 5, 5);
-    let mut other = long_pattern(alloc)?;
-    let mut into = long_pattern(alloc)?;
-    let marked = mark_class(&bytes, &mut into, 3, 6);
-    let same = first_difference(&bytes, &other);
-    other[MIB - 1] = 255;
-    let last = first_difference(&bytes, &other);
-    Some(
-        count_byte(&bytes, 5) == equal
-            && sum_bytes(&bytes) == total
-            && marked == inside
-            && are_marks(&bytes, &into, 3, 6)
-            && same == None
-            && last == plain_difference(&bytes, &other)
-            && last == Some(1_048_575),
-    )
-}
-
-#[test]
-fn kernels_do_as_plain_loops_over_1_mib(rt: HostRuntime) {
-    assert_eq!(rt; long_kernels(rt.alloc()), Some(true));
 }
 
 #[test]
