@@ -1,9 +1,9 @@
 -- How the parts of a device move at each event: one record of equations for each. This project's own.
-use Rattle.std.specs.Prelude.{◌≡◌, ℕ, ◌+◌, ◌-◌, ◌<◌, ◌==◌, true, false, not, ◌&&◌, ◌||◌, if◌then◌else◌, IsSomeAnd, List, [], ◌∷◌, ◌++◌, Option, None, Some, filter, map, option_map, slice_index}
+use Rattle.std.specs.Prelude.{◌≡◌, ℕ, ◌+◌, ◌-◌, ◌<◌, ◌==◌, true, false, not, ◌&&◌, ◌||◌, if◌then◌else◌, IsSomeAnd, List, [], ◌∷◌, ◌++◌, Option, None, Some, filter, map, option_map, slice_index, option_and_then}
+use Rattle.cp_base.specs.Commands.{aborted_cid}
 use Rattle.cp_base.specs.Known.{Known}
 use Rattle.cp_base.specs.Region.{Region}
 use Rattle.cp_base.specs.declared.commands.Command.{Command}
-use Rattle.cp_base.specs.declared.commands.Command.TheVariants as command
 use Rattle.cp_base.specs.declared.region.SpaceId.{SpaceId}
 use Rattle.cp_base.specs.declared.spans.Footprint.{Footprint}
 use Rattle.device_model.specs.State.{State}
@@ -19,22 +19,7 @@ use Rattle.core_model.specs.Ties.{is_one_of}
 
 -- what a new command names, by its host's queue: of an Abort the submit of the outstanding command of its identifier
 abbrev pub names_in_queue : List Waiting → Command → Option ℕ
-names_in_queue waiting (command.NvmRead ns lba count) = None
-names_in_queue waiting (command.NvmWrite ns lba bytes) = None
-names_in_queue waiting (command.NvmZeroes ns lba count) = None
-names_in_queue waiting (command.NvmCopy ns lba from) = None
-names_in_queue waiting (command.MemRead ns at len) = None
-names_in_queue waiting (command.MemWrite ns at bytes) = None
-names_in_queue waiting (command.MemFill ns at len value) = None
-names_in_queue waiting (command.MemCopy ns at from) = None
-names_in_queue waiting (command.SetCreate ranges) = None
-names_in_queue waiting (command.SetDelete set) = None
-names_in_queue waiting (command.Load slot size at bytes) = None
-names_in_queue waiting (command.Unload slot) = None
-names_in_queue waiting (command.Activate slot) = None
-names_in_queue waiting (command.Deactivate slot) = None
-names_in_queue waiting (command.Execute slot set p1 p2 budget) = None
-names_in_queue waiting (command.Abort cid) = option_map (λ (w : Waiting). w.sent) (under waiting cid)
+names_in_queue waiting cmd = option_and_then (λ cid. option_map (λ (w : Waiting). w.sent) (under waiting cid)) (aborted_cid cmd)
 
 -- those that wait without the one of a submit
 abbrev pub without_waiting : List WaitingSubmit → ℕ → List WaitingSubmit

@@ -1,13 +1,15 @@
 -- Which commands may be picked, by the parts of a device. This project's own.
 use Rattle.std.specs.Prelude.{◌≡◌, ℕ, ◌+◌, ◌<◌, ◌==◌, Bool, false, not, ◌||◌, if◌then◌else◌, List, Option, None, Some, IsSome, filter, is_some, length, option_and_then, slice_get}
 use Rattle.std.specs.List.{list_any}
+use Rattle.cp_base.specs.Commands.{nature_of}
 use Rattle.cp_base.specs.Configuration.{Configuration}
 use Rattle.cp_base.specs.Contents.{Contents, bytes_in}
 use Rattle.cp_base.specs.Region.{Region}
 use Rattle.cp_base.specs.Sharing.{IsIn}
 use Rattle.cp_base.specs.Touching.{meets}
 use Rattle.cp_base.specs.declared.commands.Command.{Command}
-use Rattle.cp_base.specs.declared.commands.Command.TheVariants as command
+use Rattle.cp_base.specs.declared.commands.Nature.{Nature}
+use Rattle.cp_base.specs.declared.commands.Nature.TheVariants as nature
 use Rattle.cp_base.specs.declared.region.SpaceId.{SpaceId}
 use Rattle.cp_base.specs.declared.spans.Footprint.{Footprint}
 use Rattle.device_model.specs.Checks.{refusal_of}
@@ -30,24 +32,21 @@ is_slot_kept kept slot = list_any (λ (x : KeptFootprint). is_number slot x.foot
 abbrev pub is_set_kept : List KeptFootprint → ℕ → Bool
 is_set_kept kept set = list_any (λ (x : KeptFootprint). is_number set x.footprint.set) kept
 
+-- whether a command of this nature would change a slot or a set that is held
+abbrev pub changes_kept_by : List KeptFootprint → Nature → Bool
+changes_kept_by kept nature.Reads = false
+changes_kept_by kept nature.Writes = false
+changes_kept_by kept nature.Copies = false
+changes_kept_by kept (nature.Executes slot set) = false
+changes_kept_by kept nature.Builds = false
+changes_kept_by kept nature.Arranges = false
+changes_kept_by kept (nature.Deletes set) = is_set_kept kept set
+changes_kept_by kept (nature.Stops slot) = is_slot_kept kept slot
+changes_kept_by kept (nature.Withdraws cid) = false
+
 -- whether a command would change a slot or a set that is held
 abbrev pub changes_kept : List KeptFootprint → Command → Bool
-changes_kept kept (command.NvmRead ns lba count) = false
-changes_kept kept (command.NvmWrite ns lba bytes) = false
-changes_kept kept (command.NvmZeroes ns lba count) = false
-changes_kept kept (command.NvmCopy ns lba from) = false
-changes_kept kept (command.MemRead ns at len) = false
-changes_kept kept (command.MemWrite ns at bytes) = false
-changes_kept kept (command.MemFill ns at len value) = false
-changes_kept kept (command.MemCopy ns at from) = false
-changes_kept kept (command.SetCreate ranges) = false
-changes_kept kept (command.SetDelete set) = is_set_kept kept set
-changes_kept kept (command.Load slot size at bytes) = false
-changes_kept kept (command.Unload slot) = false
-changes_kept kept (command.Activate slot) = false
-changes_kept kept (command.Deactivate slot) = is_slot_kept kept slot
-changes_kept kept (command.Execute slot set p1 p2 budget) = false
-changes_kept kept (command.Abort cid) = false
+changes_kept kept cmd = changes_kept_by kept (nature_of cmd)
 
 -- what a command touches, by the tables of the parts
 abbrev pub touched_by : Configuration → Parts → Command → Footprint

@@ -1,6 +1,7 @@
 pub mod Answer
 pub mod Buffer
 pub mod Checks
+pub mod Commands
 pub mod Configuration
 pub mod Contents
 pub mod Growth
@@ -11,4 +12,3 @@ pub mod Runs
 pub mod Sets
 pub mod Sharing
 pub mod Touching
-pub mod Words

@@ -1,8 +1,9 @@
-// The commands that a host can send.
-ghost use Rattle.std.specs.Prelude.{◌≡◌};
-ghost use Rattle.cp_base.specs.Words.{word_of};
+// The commands that a host can send: what they ask for, their words, and what each is to those that carry it out.
+ghost use Rattle.std.specs.Prelude.{◌≡◌, ◌≤◌, length, find};
+ghost use Rattle.std.specs.Str.{bytes_eq};
+ghost use Rattle.cp_base.specs.Commands.{command_word, is_moving, nature_of, word_of, word_text};
 
-use crate::{Bytes, CommandWord, SetRanges, SourceList};
+use crate::{Bytes, SetRanges, SourceList};
 
 /// A command, with its fields as the host gave them. Fields too large for the device are found when
 /// the command is carried out.
@@ -126,4 +127,157 @@ impl Command {
             Command::Abort { .. } => CommandWord::Abort,
         }
     }
+
+    /// What the command is to those that carry it out.
+    pub fn nature(&self) -> Nature
+        ensures { result ≡ nature_of self.now }
+    {
+        match self {
+            Command::NvmRead { .. } | Command::MemRead { .. } => Nature::Reads,
+            Command::NvmWrite { .. }
+            | Command::NvmZeroes { .. }
+            | Command::MemWrite { .. }
+            | Command::MemFill { .. } => Nature::Writes,
+            Command::NvmCopy { .. } | Command::MemCopy { .. } => Nature::Copies,
+            Command::SetCreate { .. } | Command::Unload { .. } => Nature::Arranges,
+            Command::SetDelete { set } => Nature::Deletes { set: *set },
+            Command::Load { .. } | Command::Activate { .. } => Nature::Builds,
+            Command::Deactivate { slot } => Nature::Stops { slot: *slot },
+            Command::Execute { slot, set, .. } => Nature::Executes {
+                slot: *slot,
+                set: *set,
+            },
+            Command::Abort { cid } => Nature::Withdraws { cid: *cid },
+        }
+    }
+}
+
+/// What a command is to those that carry it out. This project's own.
+#[derive(Clone, Copy, Debug, PartialEq, Eq)]
+pub enum Nature {
+    /// It reads bytes of a namespace, and they are its answer.
+    Reads,
+    /// It writes given bytes over those of a namespace.
+    Writes,
+    /// It writes bytes of namespaces over those of a namespace.
+    Copies,
+    /// It executes the program of a slot on the ranges of a set, and holds both as long as it does.
+    Executes {
+        slot: u32,
+        set: u32,
+    },
+    /// It changes the program of a slot that nobody executes, and takes memory.
+    Builds,
+    /// It makes a set or empties a slot that nobody executes.
+    Arranges,
+    /// It takes a set away.
+    Deletes {
+        set: u32,
+    },
+    /// It ends the executions of the program of a slot.
+    Stops {
+        slot: u32,
+    },
+    /// It withdraws the command of its host under an identifier.
+    Withdraws {
+        cid: u32,
+    },
+}
+
+impl Nature {
+    /// Whether a command of this nature reads or writes bytes of namespaces.
+    pub fn is_moving(self) -> bool
+        ensures { result ≡ is_moving self }
+    {
+        match self {
+            Nature::Reads | Nature::Writes | Nature::Copies | Nature::Executes { .. } => true,
+            Nature::Builds
+            | Nature::Arranges
+            | Nature::Deletes { .. }
+            | Nature::Stops { .. }
+            | Nature::Withdraws { .. } => false,
+        }
+    }
+}
+
+/// A command by its word. This project's own.
+#[derive(Clone, Copy, Debug, PartialEq, Eq)]
+pub enum CommandWord {
+    NvmRead,
+    NvmWrite,
+    NvmZeroes,
+    NvmCopy,
+    MemRead,
+    MemWrite,
+    MemFill,
+    MemCopy,
+    SetCreate,
+    SetDelete,
+    Load,
+    Unload,
+    Activate,
+    Deactivate,
+    Execute,
+    Abort,
+}
+
+impl CommandWord {
+    /// All words.
+    pub const ALL: [CommandWord; 16] = [
+        CommandWord::NvmRead,
+        CommandWord::NvmWrite,
+        CommandWord::NvmZeroes,
+        CommandWord::NvmCopy,
+        CommandWord::MemRead,
+        CommandWord::MemWrite,
+        CommandWord::MemFill,
+        CommandWord::MemCopy,
+        CommandWord::SetCreate,
+        CommandWord::SetDelete,
+        CommandWord::Load,
+        CommandWord::Unload,
+        CommandWord::Activate,
+        CommandWord::Deactivate,
+        CommandWord::Execute,
+        CommandWord::Abort,
+    ];
+
+    /// The word of a text. `None` where the text is no command's word.
+    pub fn of(text: &[u8]) -> Option<CommandWord>
+        ensures { result ≡ command_word text.now }
+    {
+        first_named(&Self::ALL, text)
+    }
+
+    /// The word's text.
+    pub fn text(self) -> &'static [u8]
+        ensures text { result.now ≡ word_text self }
+        ensures short { length result.now ≤ 10 }
+    {
+        match self {
+            CommandWord::NvmRead => b"nvmread",
+            CommandWord::NvmWrite => b"nvmwrite",
+            CommandWord::NvmZeroes => b"nvmzeroes",
+            CommandWord::NvmCopy => b"nvmcopy",
+            CommandWord::MemRead => b"memread",
+            CommandWord::MemWrite => b"memwrite",
+            CommandWord::MemFill => b"memfill",
+            CommandWord::MemCopy => b"memcopy",
+            CommandWord::SetCreate => b"setcreate",
+            CommandWord::SetDelete => b"setdelete",
+            CommandWord::Load => b"load",
+            CommandWord::Unload => b"unload",
+            CommandWord::Activate => b"activate",
+            CommandWord::Deactivate => b"deactivate",
+            CommandWord::Execute => b"execute",
+            CommandWord::Abort => b"abort",
+        }
+    }
+}
+
+// The first of these words that has this text.
+fn first_named(words: &[CommandWord], text: &[u8]) -> Option<CommandWord>
+    ensures { result ≡ find (λ word. bytes_eq text.now (word_text word)) words.now }
+{
+    words.iter().copied().find(|word| text == word.text())
 }

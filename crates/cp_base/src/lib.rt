@@ -12,10 +12,9 @@ mod region;
 mod replies;
 mod sequence;
 mod spans;
-mod words;
 
 pub use buffer::Bytes;
-pub use commands::Command;
+pub use commands::{Command, CommandWord, Nature};
 pub use configuration::Config;
 pub use laws::{runs_examples, runs_laws, sharing_examples, sharing_laws};
 pub use limits::{
@@ -28,4 +27,3 @@ pub use region::{ByteRange, SpaceId};
 pub use replies::{Piece, Refusal, Reply, Status};
 pub use sequence::Sequence;
 pub use spans::{Footprint, Spans};
-pub use words::CommandWord;

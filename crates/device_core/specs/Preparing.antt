@@ -1,10 +1,12 @@
 -- What is prepared for a claim. This project's own.
 use Rattle.std.specs.Prelude.{◌≡◌, ◌≤◌, ℕ, List, Option, None, Some, option_map, replicate, vec_capacity}
+use Rattle.cp_base.specs.Commands.{nature_of}
 use Rattle.cp_base.specs.Configuration.{Configuration}
 use Rattle.cp_base.specs.Region.{Region}
 use Rattle.cp_base.specs.Sets.{RangeSet, ranges_under}
 use Rattle.cp_base.specs.declared.commands.Command.{Command}
-use Rattle.cp_base.specs.declared.commands.Command.TheVariants as command
+use Rattle.cp_base.specs.declared.commands.Nature.{Nature}
+use Rattle.cp_base.specs.declared.commands.Nature.TheVariants as nature
 use Rattle.cp_base.specs.declared.lists.MemRange.{MemRange}
 use Rattle.cp_base.specs.declared.spans.Footprint.{Footprint}
 use Rattle.bpf_model.specs.Address.{stack_len}
@@ -25,24 +27,21 @@ carried_in c s cmd = carried_regions c (execution_of s cmd).ranges cmd
 abbrev pub taken_in : Configuration → State → Command → List Region
 taken_in c s cmd = writes_of c (execution_of s cmd).ranges cmd
 
+-- the ranges of the set that a command of this nature runs on
+abbrev pub set_run_by : List RangeSet → Nature → Option (List MemRange)
+set_run_by sets nature.Reads = None
+set_run_by sets nature.Writes = None
+set_run_by sets nature.Copies = None
+set_run_by sets (nature.Executes slot set) = ranges_under sets set
+set_run_by sets nature.Builds = None
+set_run_by sets nature.Arranges = None
+set_run_by sets (nature.Deletes set) = None
+set_run_by sets (nature.Stops slot) = None
+set_run_by sets (nature.Withdraws cid) = None
+
 -- the ranges of the set that an execution runs on; none for any other command
 abbrev pub set_in : List RangeSet → Command → Option (List MemRange)
-set_in sets (command.NvmRead ns lba count) = None
-set_in sets (command.NvmWrite ns lba bytes) = None
-set_in sets (command.NvmZeroes ns lba count) = None
-set_in sets (command.NvmCopy ns lba from) = None
-set_in sets (command.MemRead ns at len) = None
-set_in sets (command.MemWrite ns at bytes) = None
-set_in sets (command.MemFill ns at len value) = None
-set_in sets (command.MemCopy ns at from) = None
-set_in sets (command.SetCreate ranges) = None
-set_in sets (command.SetDelete set) = None
-set_in sets (command.Load slot size at bytes) = None
-set_in sets (command.Unload slot) = None
-set_in sets (command.Activate slot) = None
-set_in sets (command.Deactivate slot) = None
-set_in sets (command.Execute slot set p1 p2 budget) = ranges_under sets set
-set_in sets (command.Abort cid) = None
+set_in sets cmd = set_run_by sets (nature_of cmd)
 
 -- the set, the code, the stack and the room for windows on so many pieces that an execution has
 pub record FitsSetup (x : Execution) (pieces : ℕ) (setup : Setup) : Type 0 where

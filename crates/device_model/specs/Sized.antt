@@ -18,24 +18,29 @@ pub record AreSizedRanges (ranges : List MemRange) : Type 0 where
   pub few : length ranges ≤ MAX_ITEMS
   pub lengths : All (λ (range : MemRange). range.len < 2 ^ 64) ranges
 
--- what a command says: its data are bytes, and what an execution hands on has 64 bits
+-- what a command says, where a word says that data are bytes, and another one what is said of the ranges of a set: a fill is
+-- of a byte, and what an execution hands on has 64 bits
+abbrev pub IsSizedBy : (List ℕ → Type 0) → (List MemRange → Type 0) → Command → Type 0
+IsSizedBy Data Ranges (command.NvmRead ns lba count) = Unit {0}
+IsSizedBy Data Ranges (command.NvmWrite ns lba bytes) = Data bytes.items
+IsSizedBy Data Ranges (command.NvmZeroes ns lba count) = Unit {0}
+IsSizedBy Data Ranges (command.NvmCopy ns lba from) = Unit {0}
+IsSizedBy Data Ranges (command.MemRead ns at len) = Unit {0}
+IsSizedBy Data Ranges (command.MemWrite ns at bytes) = Data bytes.items
+IsSizedBy Data Ranges (command.MemFill ns at len value) = value < 256
+IsSizedBy Data Ranges (command.MemCopy ns at from) = Unit {0}
+IsSizedBy Data Ranges (command.SetCreate ranges) = Ranges ranges
+IsSizedBy Data Ranges (command.SetDelete set) = Unit {0}
+IsSizedBy Data Ranges (command.Load slot size at bytes) = Data bytes.items
+IsSizedBy Data Ranges (command.Unload slot) = Unit {0}
+IsSizedBy Data Ranges (command.Activate slot) = Unit {0}
+IsSizedBy Data Ranges (command.Deactivate slot) = Unit {0}
+IsSizedBy Data Ranges (command.Execute slot set p1 p2 budget) = (p1 < 2 ^ 64) × (p2 < 2 ^ 64)
+IsSizedBy Data Ranges (command.Abort cid) = Unit {0}
+
+-- what a command says: its data are bytes, and its numbers have their bits
 abbrev pub IsSizedCommand : Command → Type 0
-IsSizedCommand (command.NvmRead ns lba count) = Unit {0}
-IsSizedCommand (command.NvmWrite ns lba bytes) = HoldBytes bytes.items
-IsSizedCommand (command.NvmZeroes ns lba count) = Unit {0}
-IsSizedCommand (command.NvmCopy ns lba from) = Unit {0}
-IsSizedCommand (command.MemRead ns at len) = Unit {0}
-IsSizedCommand (command.MemWrite ns at bytes) = HoldBytes bytes.items
-IsSizedCommand (command.MemFill ns at len value) = value < 256
-IsSizedCommand (command.MemCopy ns at from) = Unit {0}
-IsSizedCommand (command.SetCreate ranges) = AreSizedRanges ranges
-IsSizedCommand (command.SetDelete set) = Unit {0}
-IsSizedCommand (command.Load slot size at bytes) = HoldBytes bytes.items
-IsSizedCommand (command.Unload slot) = Unit {0}
-IsSizedCommand (command.Activate slot) = Unit {0}
-IsSizedCommand (command.Deactivate slot) = Unit {0}
-IsSizedCommand (command.Execute slot set p1 p2 budget) = (p1 < 2 ^ 64) × (p2 < 2 ^ 64)
-IsSizedCommand (command.Abort cid) = Unit {0}
+IsSizedCommand cmd = IsSizedBy HoldBytes AreSizedRanges cmd
 
 -- what a slot holds: bytes, no more than a program may have
 abbrev pub IsSizedSlot : Slot → Type 0

@@ -6,11 +6,11 @@ use Rattle.std.proofs.lemmas.List.{append_cancel_left, length-append, length-map
 use Rattle.std.proofs.lemmas.List.Elements.{All-contains_itself}
 use Rattle.std.proofs.lemmas.List.Sorted.{length_permutation}
 use Rattle.cp_base.specs.Configuration.{Configuration}
-use Rattle.cp_base.specs.Words.{word_of, word_text}
+use Rattle.cp_base.specs.Commands.{word_of, word_text}
 use Rattle.cp_base.specs.declared.replies.Status.{Status}
 use Rattle.cp_base.specs.declared.replies.Status.TheVariants as status
-use Rattle.cp_base.specs.declared.words.CommandWord.{CommandWord}
-use Rattle.cp_base.specs.declared.words.CommandWord.TheVariants as word
+use Rattle.cp_base.specs.declared.commands.CommandWord.{CommandWord}
+use Rattle.cp_base.specs.declared.commands.CommandWord.TheVariants as word
 use Rattle.cp_text.specs.HexText.{hex_text}
 use Rattle.cp_text.specs.Parts.{lacks}
 use Rattle.cp_text.proofs.Joined.{decimal_lacks, hex_lacks, lacks_both, same_cut}

@@ -3,7 +3,7 @@ ghost use Rattle.std.specs.Prelude.{◌≡◌, ◌∷◌, ◌++◌, ◌<◌, ◌
 ghost use Rattle.cp_base.specs.Answer.{only_status};
 ghost use Rattle.cp_base.specs.Contents.{bytes_in};
 ghost use Rattle.cp_base.specs.Configuration.{size_of};
-ghost use Rattle.cp_base.specs.Words.{word_of};
+ghost use Rattle.cp_base.specs.Commands.{word_of};
 ghost use Rattle.history_model.specs.Entry.{Entry};
 ghost use Rattle.history_model.specs.Sent.{sends_of};
 ghost use Rattle.history_model.specs.Text.{line_of_entry, shown_text};

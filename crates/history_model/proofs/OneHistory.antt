@@ -16,11 +16,11 @@ use Rattle.cp_text.specs.HexText.{hex_text}
 use Rattle.cp_text.specs.Parts.{lacks}
 use Rattle.cp_text.proofs.HexTexts.{hex_text-one}
 use Rattle.cp_text.proofs.Joined.{decimal_lacks, hex_lacks, same_cut}
-use Rattle.cp_base.specs.Words.{word_of, word_text}
+use Rattle.cp_base.specs.Commands.{word_of, word_text}
 use Rattle.script_cmds.specs.declared.item.Phase.{Phase}
 use Rattle.script_cmds.specs.declared.item.Show.{Show}
-use Rattle.cp_base.specs.declared.words.CommandWord.{CommandWord}
-use Rattle.cp_base.specs.declared.words.CommandWord.TheVariants as word
+use Rattle.cp_base.specs.declared.commands.CommandWord.{CommandWord}
+use Rattle.cp_base.specs.declared.commands.CommandWord.TheVariants as word
 use Rattle.history_model.specs.Entry.{Entry}
 use Rattle.history_model.specs.Legal.{IsLegal, last_state}
 use Rattle.history_model.specs.Sent.{Sent, sends_of}

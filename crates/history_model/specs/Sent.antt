@@ -1,7 +1,8 @@
 -- The commands of a plan, each as its host sends it, and which of them have to come before which. This
 -- project's own.
-use Rattle.std.specs.Prelude.{◌≡◌, ℕ, ◌+◌, ◌<◌, ◌==◌, not, ◌⊎◌, List, [], ◌∷◌, ◌++◌, Option, Some, None, Contains, count_by, filter, map}
+use Rattle.std.specs.Prelude.{◌≡◌, ℕ, ◌+◌, ◌<◌, ◌==◌, not, ◌⊎◌, List, [], ◌∷◌, ◌++◌, Option, Some, None, Contains, count_by, filter, map, option_and_then}
 use Rattle.std.specs.List.{last_or}
+use Rattle.cp_base.specs.Commands.{aborted_cid}
 use Rattle.cp_base.specs.declared.commands.Command.{Command}
 use Rattle.cp_base.specs.declared.commands.Command.TheVariants as command
 use Rattle.script_cmds.specs.declared.item.Item.{Item}
@@ -34,22 +35,7 @@ ordinals_of cid waiting = map (λ (w : Waiting). w.ordinal) (filter (λ (w : Wai
 -- The ordinal of the command that an Abort names: of the outstanding commands of its host the last that
 -- was sent under the identifier. None where there is none, and of every other command.
 abbrev pub named_in : List Waiting → Command → Option ℕ
-named_in waiting (command.NvmRead ns lba count) = None
-named_in waiting (command.NvmWrite ns lba bytes) = None
-named_in waiting (command.NvmZeroes ns lba count) = None
-named_in waiting (command.NvmCopy ns lba from) = None
-named_in waiting (command.MemRead ns at len) = None
-named_in waiting (command.MemWrite ns at bytes) = None
-named_in waiting (command.MemFill ns at len value) = None
-named_in waiting (command.MemCopy ns at from) = None
-named_in waiting (command.SetCreate ranges) = None
-named_in waiting (command.SetDelete set) = None
-named_in waiting (command.Load slot size at bytes) = None
-named_in waiting (command.Unload slot) = None
-named_in waiting (command.Activate slot) = None
-named_in waiting (command.Deactivate slot) = None
-named_in waiting (command.Execute slot set p1 p2 budget) = None
-named_in waiting (command.Abort cid) = last_or None (ordinals_of cid waiting)
+named_in waiting cmd = option_and_then (λ cid. last_or None (ordinals_of cid waiting)) (aborted_cid cmd)
 
 -- the commands that a host sends by these items, from an ordinal on
 abbrev pub sends_of_items : ℕ → ℕ → ℕ → List Waiting → List ℕ → List Item → List Sent

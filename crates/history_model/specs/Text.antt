@@ -1,8 +1,8 @@
 -- What is printed of a history. This project's own.
 use Rattle.std.specs.Prelude.{ℕ, ◌+◌, ◌-◌, ◌%◌, ◌^◌, List, [], ◌∷◌, ◌++◌, codes, decimal, length, sum_by, count_by, Bool, true, false}
 use Rattle.cp_base.specs.Configuration.{Configuration}
-use Rattle.cp_base.specs.Words.{word_of, word_text}
-use Rattle.cp_base.specs.declared.words.CommandWord.{CommandWord}
+use Rattle.cp_base.specs.Commands.{word_of, word_text}
+use Rattle.cp_base.specs.declared.commands.CommandWord.{CommandWord}
 use Rattle.cp_base.specs.declared.replies.Status.{Status}
 use Rattle.cp_base.specs.declared.replies.Status.TheVariants as status
 use Rattle.cp_text.specs.HexText.{hex_text}

@@ -4,7 +4,7 @@ use Rattle.std.specs.List.{AllByRecursion, concat}
 use Rattle.cp_base.specs.Answer.{Answer}
 use Rattle.cp_base.specs.Configuration.{Configuration}
 use Rattle.cp_base.specs.Contents.{Contents, bytes_in}
-use Rattle.cp_base.specs.Words.{word_of}
+use Rattle.cp_base.specs.Commands.{word_of}
 use Rattle.cp_base.specs.declared.commands.Command.{Command}
 use Rattle.cp_base.specs.declared.limits.TheConstants.{MAX_TRANSFER}
 use Rattle.device_model.specs.State.{State}

@@ -1,7 +1,7 @@
 -- The lines that are printed of a script, one by one. This project's own.
 use Rattle.std.specs.Prelude.{ℕ, ◌+◌, List, [], ◌∷◌, map}
 use Rattle.cp_base.specs.Contents.{Contents, bytes_in}
-use Rattle.cp_base.specs.Words.{word_of}
+use Rattle.cp_base.specs.Commands.{word_of}
 use Rattle.script_cmds.specs.declared.item.Show.{Show}
 use Rattle.history_model.specs.Text.{line_of_entry, shown_text}
 use Rattle.trail_model.specs.World.{Completion}

@@ -8,12 +8,12 @@ use Rattle.cp_base.specs.declared.replies.Status.{Status}
 use Rattle.cp_base.specs.declared.replies.Status.TheVariants as status
 use Rattle.cp_text.specs.HexText.{hex_text}
 use Rattle.cp_text.proofs.HexTexts.{hex_length}
-use Rattle.cp_base.specs.Words.{word_text}
+use Rattle.cp_base.specs.Commands.{word_text}
 use Rattle.script_line.specs.Line.{line_text}
 use Rattle.script_cmds.specs.Text.{region_line, show_line}
 use Rattle.script_cmds.specs.declared.item.Show.{Show}
-use Rattle.cp_base.specs.declared.words.CommandWord.{CommandWord}
-use Rattle.cp_base.specs.declared.words.CommandWord.TheVariants as word
+use Rattle.cp_base.specs.declared.commands.CommandWord.{CommandWord}
+use Rattle.cp_base.specs.declared.commands.CommandWord.TheVariants as word
 use Rattle.history_model.specs.Text.{lettered, line_of_entry, lines_of_summary, shown_text, status_text}
 use Rattle.replay_print.specs.Lines.{number_of_space}
 use Rattle.replay_print.specs.Parts.{data_text, name_text, outcome_text}

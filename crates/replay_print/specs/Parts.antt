@@ -1,8 +1,8 @@
 -- The parts of the printed lines. This project's own.
 use Rattle.std.specs.Prelude.{ℕ, List, [], ◌∷◌, ◌++◌, codes}
-use Rattle.cp_base.specs.Words.{word_text}
+use Rattle.cp_base.specs.Commands.{word_text}
 use Rattle.cp_base.specs.declared.replies.Status.{Status}
-use Rattle.cp_base.specs.declared.words.CommandWord.{CommandWord}
+use Rattle.cp_base.specs.declared.commands.CommandWord.{CommandWord}
 use Rattle.cp_text.specs.HexText.{hex_text}
 use Rattle.history_model.specs.Text.{lettered, status_text}
 

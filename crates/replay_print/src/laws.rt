@@ -2,7 +2,7 @@
 ghost use Rattle.std.specs.Prelude.{ℕ, ◌^◌, ◌<◌, ◌≤◌, List, length};
 ghost use Rattle.cp_base.specs.declared.replies.Status.{Status};
 ghost use Rattle.script_cmds.specs.declared.item.Show.{Show};
-ghost use Rattle.cp_base.specs.declared.words.CommandWord.{CommandWord};
+ghost use Rattle.cp_base.specs.declared.commands.CommandWord.{CommandWord};
 ghost use Rattle.history_model.specs.Text.{line_of_entry, lines_of_summary, shown_text};
 ghost use Rattle.replay_print.specs.Lines.{number_of_space};
 

@@ -5,11 +5,11 @@ use Rattle.std.specs.declared.sync.Arc.{Arc}
 use Rattle.std.proofs.lemmas.List.{append-nil}
 use Rattle.std.proofs.lemmas.List.Elements.{All-nil}
 use denote.RawPtr.{null_ptr}
-use Rattle.cp_base.specs.Words.{word_of, word_text}
+use Rattle.cp_base.specs.Commands.{word_of, word_text}
 use Rattle.cp_base.specs.declared.commands.Command.{Command}
 use Rattle.cp_base.specs.declared.commands.Command.TheVariants as command
-use Rattle.cp_base.specs.declared.words.CommandWord.{CommandWord}
-use Rattle.cp_base.specs.declared.words.CommandWord.TheVariants as word
+use Rattle.cp_base.specs.declared.commands.CommandWord.{CommandWord}
+use Rattle.cp_base.specs.declared.commands.CommandWord.TheVariants as word
 use Rattle.cp_text.specs.Parts.{joined_by}
 use Rattle.cp_text.proofs.Cuts.{some_part}
 use Rattle.cp_text.proofs.Joined.{joined_again}

@@ -6,8 +6,8 @@ use Rattle.std.proofs.lemmas.Bool.{leb-true}
 use Rattle.std.proofs.lemmas.Option.{get_or_from_slice_get, slice_get_within}
 use Rattle.cp_base.specs.Configuration.{Configuration, IsWithinLimits, bare, present, size_of}
 use Rattle.cp_base.specs.declared.limits.TheConstants.{MAX_HOSTS, MAX_NAMESPACE, MAX_TRANSFER, NAMESPACES}
-use Rattle.cp_base.specs.Words.{word_text}
-use Rattle.cp_base.specs.declared.words.CommandWord.{CommandWord}
+use Rattle.cp_base.specs.Commands.{word_text}
+use Rattle.cp_base.specs.declared.commands.CommandWord.{CommandWord}
 use Rattle.script_line.specs.declared.kind.LineKind.TheVariants as line
 use Rattle.script_line.specs.declared.kind.SpaceKind.{SpaceKind}
 use Rattle.script_line.specs.declared.kind.SpaceKind.TheVariants as space_kind

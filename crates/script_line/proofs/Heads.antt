@@ -2,8 +2,8 @@
 use Rattle.std.proofs.Common.{◌≡◌, ℕ, Bool, true, false, cond, List, [], ◌∷◌, ◌++◌, Option, Some, None, Result, Ok, Err, refl, sym, ap, subst, ◌∙◌}
 use Rattle.std.specs.Prelude.{find}
 use Rattle.std.specs.Str.{bytes_eq}
-use Rattle.cp_base.specs.Words.{all_words, command_word, word_text}
-use Rattle.cp_base.specs.declared.words.CommandWord.{CommandWord}
+use Rattle.cp_base.specs.Commands.{all_words, command_word, word_text}
+use Rattle.cp_base.specs.declared.commands.CommandWord.{CommandWord}
 use Rattle.script_line.specs.declared.fault.TextCause.{TextCause}
 use Rattle.script_line.specs.declared.fault.TextCause.TheVariants as cause
 use Rattle.script_line.specs.declared.version.Version.{Version}

@@ -13,11 +13,11 @@ use Rattle.cp_text.proofs.HexTexts.{hex_of-text}
 use Rattle.cp_text.proofs.NumberTexts.{number_of-decimal}
 use Rattle.cp_text.specs.Parts.{all_lack, joined_by, lacks, parts_between}
 use Rattle.cp_text.proofs.Joined.{IsNoDigit, all_lack_cons, decimal_lacks, hex_lacks, joined_lacks, lacks_both, lacks_cons, parts_again}
-use Rattle.cp_base.specs.Words.{all_words, command_word, word_text}
+use Rattle.cp_base.specs.Commands.{all_words, command_word, word_text}
 use Rattle.cp_base.specs.declared.lists.Access.{Access}
 use Rattle.cp_base.specs.declared.lists.Access.TheVariants as access
-use Rattle.cp_base.specs.declared.words.CommandWord.{CommandWord}
-use Rattle.cp_base.specs.declared.words.CommandWord.TheVariants as word
+use Rattle.cp_base.specs.declared.commands.CommandWord.{CommandWord}
+use Rattle.cp_base.specs.declared.commands.CommandWord.TheVariants as word
 use Rattle.script_line.specs.declared.fault.TextCause.{TextCause}
 use Rattle.script_line.specs.declared.fault.TextCause.TheVariants as cause
 use Rattle.script_line.specs.declared.kind.LineKind.{LineKind}

@@ -2,8 +2,8 @@
 use Rattle.std.proofs.Common.{◌≡◌, ℕ, Bool, true, false, cond, List, [], ◌∷◌, Option, Some, None, Result, Ok, Err, refl, ap, subst, ◌∙◌}
 use Rattle.std.specs.Prelude.{codes, option_map}
 use Rattle.std.specs.Str.{bytes_eq}
-use Rattle.cp_base.specs.Words.{command_word}
-use Rattle.cp_base.specs.declared.words.CommandWord.{CommandWord}
+use Rattle.cp_base.specs.Commands.{command_word}
+use Rattle.cp_base.specs.declared.commands.CommandWord.{CommandWord}
 use Rattle.cp_text.specs.Parts.{joined_by, parts_between}
 use Rattle.cp_text.proofs.Joined.{joined_again}
 use Rattle.script_line.specs.declared.fault.LineEnd.{LineEnd}

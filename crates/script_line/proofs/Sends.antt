@@ -1,6 +1,6 @@
 -- What the line of a command says.
 use Rattle.std.proofs.Common.{ℕ, List, [], ◌∷◌}
-use Rattle.cp_base.specs.Words.{word_of}
+use Rattle.cp_base.specs.Commands.{word_of}
 use Rattle.cp_base.specs.declared.commands.Command.{Command}
 use Rattle.cp_base.specs.declared.commands.Command.TheVariants as command
 use Rattle.script_line.specs.declared.version.Version.{Version}

@@ -1,12 +1,12 @@
 -- The lines of a script: the kinds of line and the one table of their fields. This project's own.
 use Rattle.std.specs.Prelude.{ℕ, ◌+◌, ◌/◌, ◌%◌, List, [], ◌∷◌, ◌++◌, map, codes}
 use Rattle.cp_text.specs.Parts.{joined_by}
-use Rattle.cp_base.specs.Words.{word_of, word_text}
+use Rattle.cp_base.specs.Commands.{word_of, word_text}
 use Rattle.cp_base.specs.declared.commands.Command.{Command}
 use Rattle.cp_base.specs.declared.commands.Command.TheVariants as command
 use Rattle.cp_base.specs.declared.limits.TheConstants.{NAMESPACES, MAX_NAMESPACE, MAX_TRANSFER, MAX_HOSTS}
-use Rattle.cp_base.specs.declared.words.CommandWord.{CommandWord}
-use Rattle.cp_base.specs.declared.words.CommandWord.TheVariants as word
+use Rattle.cp_base.specs.declared.commands.CommandWord.{CommandWord}
+use Rattle.cp_base.specs.declared.commands.CommandWord.TheVariants as word
 use Rattle.script_line.specs.declared.kind.LineKind.{LineKind}
 use Rattle.script_line.specs.declared.kind.LineKind.TheVariants.{Header, Namespace, Phase, Host, Send, Take, Show}
 use Rattle.script_line.specs.declared.kind.SpaceKind.{SpaceKind}

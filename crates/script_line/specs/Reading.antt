@@ -4,7 +4,7 @@ use Rattle.std.specs.Str.{bytes_eq}
 use Rattle.cp_text.specs.HexText.{hex_of}
 use Rattle.cp_text.specs.Number.{number_of}
 use Rattle.cp_text.specs.Parts.{parts_between}
-use Rattle.cp_base.specs.Words.{command_word}
+use Rattle.cp_base.specs.Commands.{command_word}
 use Rattle.cp_base.specs.declared.lists.Access.{Access}
 use Rattle.cp_base.specs.declared.lists.Access.TheVariants as access
 use Rattle.cp_base.specs.declared.lists.CopySource.{CopySource}

@@ -1,6 +1,6 @@
 // The command that a line sends.
 ghost use Rattle.std.specs.Prelude.{◌≡◌, ℕ, ◌<◌, ◌≤◌, ◌++◌, ◌∷◌, [], List, true, map, length, All, IfOk};
-ghost use Rattle.cp_base.specs.Words.{word_of};
+ghost use Rattle.cp_base.specs.Commands.{word_of};
 ghost use Rattle.script_line.specs.Field as grammar;
 ghost use Rattle.script_line.specs.Field.{IsShaped};
 ghost use Rattle.script_line.specs.Fits.{ranges_fit, source_space, sources_fit, values_fit};

@@ -4,7 +4,7 @@ use Rattle.std.specs.List.{All, AllByRecursion}
 use Rattle.std.proofs.lemmas.Bool.{false≢true}
 use Rattle.std.proofs.lemmas.Bool.Decides.{nat_tests}
 use Rattle.std.proofs.lemmas.List.Elements.{All-weaker}
-use Rattle.cp_base.specs.Words.{word_of, word_text}
+use Rattle.cp_base.specs.Commands.{word_of, word_text}
 use Rattle.cp_base.specs.declared.commands.Command.{Command}
 use Rattle.cp_base.specs.declared.commands.Command.TheVariants as command
 use Rattle.cp_base.specs.declared.limits.TheConstants.{MAX_BUDGET, MAX_ITEMS}

@@ -1,11 +1,13 @@
 -- What a device stands for, and what it may answer. This project's own.
 use Rattle.std.specs.Prelude.{◌≡◌, ℕ, ◌⊎◌, Bool, List, true, false, length, unwrap_or}
 use Rattle.cp_base.specs.Answer.{Answer}
+use Rattle.cp_base.specs.Commands.{nature_of}
 use Rattle.cp_base.specs.Configuration.{Configuration, size_of}
 use Rattle.cp_base.specs.Contents.{Contents, bytes_in, bytes_of, put}
 use Rattle.cp_base.specs.declared.commands.Command.{Command}
-use Rattle.cp_base.specs.declared.commands.Command.TheVariants as command
 use Rattle.cp_base.specs.Region.{Region}
+use Rattle.cp_base.specs.declared.commands.Nature.{Nature}
+use Rattle.cp_base.specs.declared.commands.Nature.TheVariants as nature
 use Rattle.cp_base.specs.declared.region.SpaceId.{SpaceId}
 use Rattle.cp_base.specs.declared.replies.Status.TheVariants as status
 use Rattle.device_model.specs.State.{State}
@@ -39,21 +41,18 @@ IsCarriedOut old cmd answer new =
     (outcome_of old.config old.state cmd ≡ record { answer = answer; next = new.state } ⊎ FindsNoMemory old.config old.state cmd answer new.state)
     × (new.config ≡ old.config)
 
+-- whether a command of this nature is carried out in what the device holds already, and needs no memory beside it
+abbrev pub is_in_place : Nature → Bool
+is_in_place nature.Reads = false
+is_in_place nature.Writes = true
+is_in_place nature.Copies = false
+is_in_place (nature.Executes slot set) = false
+is_in_place nature.Builds = false
+is_in_place nature.Arranges = true
+is_in_place (nature.Deletes set) = true
+is_in_place (nature.Stops slot) = true
+is_in_place (nature.Withdraws cid) = true
+
 -- whether a command is carried out in what the device holds already, and needs no memory beside it
 abbrev pub works_in_place : Command → Bool
-works_in_place (command.NvmRead ns lba count) = false
-works_in_place (command.NvmWrite ns lba bytes) = true
-works_in_place (command.NvmZeroes ns lba count) = true
-works_in_place (command.NvmCopy ns lba from) = false
-works_in_place (command.MemRead ns at len) = false
-works_in_place (command.MemWrite ns at bytes) = true
-works_in_place (command.MemFill ns at len value) = true
-works_in_place (command.MemCopy ns at from) = false
-works_in_place (command.SetCreate ranges) = true
-works_in_place (command.SetDelete set) = true
-works_in_place (command.Load slot size at bytes) = false
-works_in_place (command.Unload slot) = true
-works_in_place (command.Activate slot) = false
-works_in_place (command.Deactivate slot) = true
-works_in_place (command.Execute slot set p1 p2 budget) = false
-works_in_place (command.Abort cid) = true
+works_in_place cmd = is_in_place (nature_of cmd)

@@ -4,7 +4,7 @@ use Rattle.std.specs.List.{AllByRecursion}
 use Rattle.std.specs.Prelude.{option_and_then}
 use Rattle.cp_base.specs.declared.commands.Command.{Command}
 use Rattle.cp_base.specs.declared.commands.Command.TheVariants as command
-use Rattle.trail_model.specs.Accounts.{Naming, Outstanding, named_in, names_in, naming_of, outstanding_in}
+use Rattle.trail_model.specs.Accounts.{Naming, Outstanding, named_by_submit, names_in, naming_of, outstanding_in}
 use Rattle.trail_model.specs.Linked.{IsLinked, NamesEarlier, requests_of}
 use Rattle.trail_model.specs.World.{Queued, Request, Submission, World, outstanding_of, outstanding_under, request_at, request_of, submit_at, submits_of}
 use Rattle.trail_model.proofs.Linked.{requests-push, self-found, under-each}
@@ -39,7 +39,7 @@ then-same : (f g : Lookup) → ((place : ℕ) → f place ≡ g place) → (name
 then-same f g same None = refl
 then-same f g same (Some place) = same place
 
-named-same : (submits : List Submission) (r : Request) (cmd : Command) → named_in submits r cmd ≡ named_by (looked_up (requests_of submits)) r cmd
+named-same : (submits : List Submission) (r : Request) (cmd : Command) → named_by_submit submits r cmd ≡ named_by (looked_up (requests_of submits)) r cmd
 named-same submits r (command.Abort cid) =
     ap (λ (o : Option Request). let n : Naming = record { abort = r.ordinal; named = option_map (λ (x : Request). x.ordinal) o } in n ∷ [])
     (then-same (λ place. request_at submits place) (looked_up (requests_of submits)) (look-same submits) r.names)

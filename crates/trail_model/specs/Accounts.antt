@@ -1,7 +1,7 @@
 -- What a party knows of itself by its own events alone. This project's own.
 use Rattle.std.specs.Prelude.{ℕ, ◌+◌, ◌==◌, not, if◌then◌else◌, List, [], ◌∷◌, ◌++◌, Option, Some, None, filter, find, map, option_and_then, option_map}
+use Rattle.cp_base.specs.Commands.{aborted_cid}
 use Rattle.cp_base.specs.declared.commands.Command.{Command}
-use Rattle.cp_base.specs.declared.commands.Command.TheVariants as command
 use Rattle.trail_model.specs.Lawful.{Trail, party_of_event}
 use Rattle.trail_model.specs.World.{OpenClaim, Request, Submission, World, claim_by, ordinal_after, outstanding_of, request_at}
 use Rattle.trail_model.specs.declared.events.Event.{Event}
@@ -38,24 +38,14 @@ first_account = record { next = 1; outstanding = []; names = []; claim = None }
 abbrev pub ordinal_under : List Outstanding → ℕ → Option ℕ
 ordinal_under outstanding cid = option_map (λ (o : Outstanding). o.ordinal) (find (λ (o : Outstanding). o.cid == cid) outstanding)
 
+-- what a new command names by these outstanding commands, where it is an Abort of this identifier
+abbrev pub naming_under : List Outstanding → ℕ → Option ℕ → List Naming
+naming_under outstanding ordinal None = []
+naming_under outstanding ordinal (Some cid) = record { abort = ordinal; named = ordinal_under outstanding cid } ∷ []
+
 -- what a new command names by these outstanding commands
 abbrev pub naming_of : List Outstanding → ℕ → Command → List Naming
-naming_of outstanding ordinal (command.NvmRead ns lba count) = []
-naming_of outstanding ordinal (command.NvmWrite ns lba bytes) = []
-naming_of outstanding ordinal (command.NvmZeroes ns lba count) = []
-naming_of outstanding ordinal (command.NvmCopy ns lba from) = []
-naming_of outstanding ordinal (command.MemRead ns at len) = []
-naming_of outstanding ordinal (command.MemWrite ns at bytes) = []
-naming_of outstanding ordinal (command.MemFill ns at len value) = []
-naming_of outstanding ordinal (command.MemCopy ns at from) = []
-naming_of outstanding ordinal (command.SetCreate ranges) = []
-naming_of outstanding ordinal (command.SetDelete set) = []
-naming_of outstanding ordinal (command.Load slot size at bytes) = []
-naming_of outstanding ordinal (command.Unload slot) = []
-naming_of outstanding ordinal (command.Activate slot) = []
-naming_of outstanding ordinal (command.Deactivate slot) = []
-naming_of outstanding ordinal (command.Execute slot set p1 p2 budget) = []
-naming_of outstanding ordinal (command.Abort cid) = record { abort = ordinal; named = ordinal_under outstanding cid } ∷ []
+naming_of outstanding ordinal cmd = naming_under outstanding ordinal (aborted_cid cmd)
 
 -- the account of a party after an event of its own
 abbrev pub account_after : Account → Event → Account
@@ -88,33 +78,23 @@ events_of party trail = filter (λ (e : Event). party_of_event e == party) trail
 abbrev pub outstanding_in : List Submission → ℕ → List Outstanding
 outstanding_in submits host = map (λ (s : Submission). record { cid = s.request.cid; ordinal = s.request.ordinal }) (outstanding_of submits host)
 
--- what a submit names
-abbrev pub named_in : List Submission → Request → Command → List Naming
-named_in submits request (command.NvmRead ns lba count) = []
-named_in submits request (command.NvmWrite ns lba bytes) = []
-named_in submits request (command.NvmZeroes ns lba count) = []
-named_in submits request (command.NvmCopy ns lba from) = []
-named_in submits request (command.MemRead ns at len) = []
-named_in submits request (command.MemWrite ns at bytes) = []
-named_in submits request (command.MemFill ns at len value) = []
-named_in submits request (command.MemCopy ns at from) = []
-named_in submits request (command.SetCreate ranges) = []
-named_in submits request (command.SetDelete set) = []
-named_in submits request (command.Load slot size at bytes) = []
-named_in submits request (command.Unload slot) = []
-named_in submits request (command.Activate slot) = []
-named_in submits request (command.Deactivate slot) = []
-named_in submits request (command.Execute slot set p1 p2 budget) = []
-named_in submits request (command.Abort cid) = record {
+-- what a submit names, where it is an Abort of this identifier
+abbrev pub named_under : List Submission → Request → Option ℕ → List Naming
+named_under submits request None = []
+named_under submits request (Some cid) = record {
   abort = request.ordinal;
   named = option_map (λ (r : Request). r.ordinal) (option_and_then (λ place. request_at submits place) request.names);
 } ∷ []
+
+-- what a submit names
+abbrev pub named_by_submit : List Submission → Request → Command → List Naming
+named_by_submit submits request cmd = named_under submits request (aborted_cid cmd)
 
 -- what the submits of a host name, in order, where the places are those of all submits
 abbrev pub names_in : List Submission → ℕ → List Submission → List Naming
 names_in submits host [] = []
 names_in submits host (s ∷ more) =
-    (if s.request.host == host then named_in submits s.request s.request.command else []) ++ names_in submits host more
+    (if s.request.host == host then named_by_submit submits s.request s.request.command else []) ++ names_in submits host more
 
 -- the account of a party in a world
 abbrev pub account_in : World → ℕ → Account

@@ -2,6 +2,7 @@
 -- while it is carried out. This project's own.
 use Rattle.std.specs.Prelude.{ℕ, ◌*◌, nat_lt, Bool, true, false, ◌&&◌, ◌||◌, if◌then◌else◌, List, [], ◌∷◌, filter, length, map, Option, Some, None, unwrap_or}
 use Rattle.cp_base.specs.Checks.{destination_of}
+use Rattle.cp_base.specs.Commands.{is_executing, nature_of}
 use Rattle.cp_base.specs.Configuration.{Configuration}
 use Rattle.cp_base.specs.Region.{Region}
 use Rattle.cp_base.specs.Runs.{runs_of, space_before}
@@ -9,6 +10,8 @@ use Rattle.cp_base.specs.Sets.{ranges_under}
 use Rattle.cp_base.specs.Sharing.{range_region, same_space, source_region}
 use Rattle.cp_base.specs.declared.commands.Command.{Command}
 use Rattle.cp_base.specs.declared.commands.Command.TheVariants as command
+use Rattle.cp_base.specs.declared.commands.Nature.{Nature}
+use Rattle.cp_base.specs.declared.commands.Nature.TheVariants as nature
 use Rattle.cp_base.specs.declared.lists.MemRange.{MemRange}
 use Rattle.cp_base.specs.declared.region.SpaceId.TheVariants as space
 use Rattle.cp_base.specs.declared.spans.Footprint.{Footprint}
@@ -19,22 +22,7 @@ use Rattle.trail_model.specs.Pieces.{RegionBytes, pieces_of}
 
 -- whether a command is an execution
 abbrev pub is_execution : Command → Bool
-is_execution (command.NvmRead ns lba count) = false
-is_execution (command.NvmWrite ns lba bytes) = false
-is_execution (command.NvmZeroes ns lba count) = false
-is_execution (command.NvmCopy ns lba from) = false
-is_execution (command.MemRead ns at len) = false
-is_execution (command.MemWrite ns at bytes) = false
-is_execution (command.MemFill ns at len value) = false
-is_execution (command.MemCopy ns at from) = false
-is_execution (command.SetCreate ranges) = false
-is_execution (command.SetDelete set) = false
-is_execution (command.Load slot size at bytes) = false
-is_execution (command.Unload slot) = false
-is_execution (command.Activate slot) = false
-is_execution (command.Deactivate slot) = false
-is_execution (command.Execute slot set p1 p2 budget) = true
-is_execution (command.Abort cid) = false
+is_execution cmd = is_executing (nature_of cmd)
 
 -- what an execution runs, and the ranges that it runs on
 pub record Execution : Type 0 where
@@ -45,24 +33,21 @@ pub record Execution : Type 0 where
 abbrev pub no_execution : Execution
 no_execution = record { runs = Loaded []; ranges = [] }
 
+-- what a command of this nature would run in a state, and on which ranges
+abbrev pub execution_by : State → Nature → Execution
+execution_by s nature.Reads = no_execution
+execution_by s nature.Writes = no_execution
+execution_by s nature.Copies = no_execution
+execution_by s (nature.Executes slot set) = record { runs = executable_in s slot; ranges = unwrap_or (ranges_under s.sets set) [] }
+execution_by s nature.Builds = no_execution
+execution_by s nature.Arranges = no_execution
+execution_by s (nature.Deletes set) = no_execution
+execution_by s (nature.Stops slot) = no_execution
+execution_by s (nature.Withdraws cid) = no_execution
+
 -- what a command would run in a state, and on which ranges
 abbrev pub execution_of : State → Command → Execution
-execution_of s (command.NvmRead ns lba count) = no_execution
-execution_of s (command.NvmWrite ns lba bytes) = no_execution
-execution_of s (command.NvmZeroes ns lba count) = no_execution
-execution_of s (command.NvmCopy ns lba from) = no_execution
-execution_of s (command.MemRead ns at len) = no_execution
-execution_of s (command.MemWrite ns at bytes) = no_execution
-execution_of s (command.MemFill ns at len value) = no_execution
-execution_of s (command.MemCopy ns at from) = no_execution
-execution_of s (command.SetCreate ranges) = no_execution
-execution_of s (command.SetDelete set) = no_execution
-execution_of s (command.Load slot size at bytes) = no_execution
-execution_of s (command.Unload slot) = no_execution
-execution_of s (command.Activate slot) = no_execution
-execution_of s (command.Deactivate slot) = no_execution
-execution_of s (command.Execute slot set p1 p2 budget) = record { runs = executable_in s slot; ranges = unwrap_or (ranges_under s.sets set) [] }
-execution_of s (command.Abort cid) = no_execution
+execution_of s cmd = execution_by s (nature_of cmd)
 
 -- the ranges whose bytes a program may store into
 abbrev pub writable_ranges : List MemRange → List MemRange
@@ -106,43 +91,37 @@ writes_of c ranges (command.Deactivate slot) = []
 writes_of c ranges (command.Execute slot set p1 p2 budget) = map range_region (writable_ranges ranges)
 writes_of c ranges (command.Abort cid) = []
 
+-- the slot that a command of this nature holds while it is carried out
+abbrev pub slot_held_by : Nature → Option ℕ
+slot_held_by nature.Reads = None
+slot_held_by nature.Writes = None
+slot_held_by nature.Copies = None
+slot_held_by (nature.Executes slot set) = Some slot
+slot_held_by nature.Builds = None
+slot_held_by nature.Arranges = None
+slot_held_by (nature.Deletes set) = None
+slot_held_by (nature.Stops slot) = None
+slot_held_by (nature.Withdraws cid) = None
+
+-- the set that it holds
+abbrev pub set_held_by : Nature → Option ℕ
+set_held_by nature.Reads = None
+set_held_by nature.Writes = None
+set_held_by nature.Copies = None
+set_held_by (nature.Executes slot set) = Some set
+set_held_by nature.Builds = None
+set_held_by nature.Arranges = None
+set_held_by (nature.Deletes set) = None
+set_held_by (nature.Stops slot) = None
+set_held_by (nature.Withdraws cid) = None
+
 -- the slot that a command holds while it is carried out
 abbrev pub held_slot : Command → Option ℕ
-held_slot (command.NvmRead ns lba count) = None
-held_slot (command.NvmWrite ns lba bytes) = None
-held_slot (command.NvmZeroes ns lba count) = None
-held_slot (command.NvmCopy ns lba from) = None
-held_slot (command.MemRead ns at len) = None
-held_slot (command.MemWrite ns at bytes) = None
-held_slot (command.MemFill ns at len value) = None
-held_slot (command.MemCopy ns at from) = None
-held_slot (command.SetCreate ranges) = None
-held_slot (command.SetDelete set) = None
-held_slot (command.Load slot size at bytes) = None
-held_slot (command.Unload slot) = None
-held_slot (command.Activate slot) = None
-held_slot (command.Deactivate slot) = None
-held_slot (command.Execute slot set p1 p2 budget) = Some slot
-held_slot (command.Abort cid) = None
+held_slot cmd = slot_held_by (nature_of cmd)
 
 -- the set that a command holds while it is carried out
 abbrev pub held_set : Command → Option ℕ
-held_set (command.NvmRead ns lba count) = None
-held_set (command.NvmWrite ns lba bytes) = None
-held_set (command.NvmZeroes ns lba count) = None
-held_set (command.NvmCopy ns lba from) = None
-held_set (command.MemRead ns at len) = None
-held_set (command.MemWrite ns at bytes) = None
-held_set (command.MemFill ns at len value) = None
-held_set (command.MemCopy ns at from) = None
-held_set (command.SetCreate ranges) = None
-held_set (command.SetDelete set) = None
-held_set (command.Load slot size at bytes) = None
-held_set (command.Unload slot) = None
-held_set (command.Activate slot) = None
-held_set (command.Deactivate slot) = None
-held_set (command.Execute slot set p1 p2 budget) = Some set
-held_set (command.Abort cid) = None
+held_set cmd = set_held_by (nature_of cmd)
 
 -- what a command touches, where an execution runs on these ranges: the runs of its bytes, and what it holds
 abbrev pub footprint_of : Configuration → List MemRange → Command → Footprint

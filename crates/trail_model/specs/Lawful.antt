@@ -1,9 +1,9 @@
 -- Which trails are lawful: each event is allowed in the world before it. This project's own.
 use Rattle.std.specs.Prelude.{◌≡◌, ℕ, ◌*◌, ◌<◌, ◌≤◌, Bool, true, false, not, ◌||◌, if◌then◌else◌, IsTrue, IsFalse, IsSomeAnd, List, [], ◌∷◌, Option, is_none, is_some, length}
 use Rattle.cp_base.specs.Answer.{Answer, only_status}
+use Rattle.cp_base.specs.Commands.{aborted_cid}
 use Rattle.cp_base.specs.Configuration.{Configuration}
 use Rattle.cp_base.specs.declared.commands.Command.{Command}
-use Rattle.cp_base.specs.declared.commands.Command.TheVariants as command
 use Rattle.cp_base.specs.declared.limits.TheConstants.{MAX_HOSTS}
 use Rattle.cp_base.specs.declared.replies.Status.TheVariants as status
 use Rattle.device_model.specs.Checks.{refusal_of}
@@ -64,22 +64,7 @@ pub record MayFinish (c : Configuration) (by : ℕ) (answer : Answer) (claim : O
   pub told : answer ≡ (effect_of_claim c claim).answer
 
 abbrev pub is_abort : Command → Bool
-is_abort (command.NvmRead ns lba count) = false
-is_abort (command.NvmWrite ns lba bytes) = false
-is_abort (command.NvmZeroes ns lba count) = false
-is_abort (command.NvmCopy ns lba from) = false
-is_abort (command.MemRead ns at len) = false
-is_abort (command.MemWrite ns at bytes) = false
-is_abort (command.MemFill ns at len value) = false
-is_abort (command.MemCopy ns at from) = false
-is_abort (command.SetCreate ranges) = false
-is_abort (command.SetDelete set) = false
-is_abort (command.Load slot size at bytes) = false
-is_abort (command.Unload slot) = false
-is_abort (command.Activate slot) = false
-is_abort (command.Deactivate slot) = false
-is_abort (command.Execute slot set p1 p2 budget) = false
-is_abort (command.Abort cid) = true
+is_abort cmd = is_some (aborted_cid cmd)
 
 -- what a command is told that is done at once: an Abort 0 where it withdraws a command and else 1, any other command what
 -- the sequential device answers

@@ -3,8 +3,8 @@ use Rattle.std.specs.Prelude.{ℕ, ◌^◌, ◌<◌, ◌≤◌, List, length}
 use Rattle.std.specs.List.{AllByRecursion}
 use Rattle.cp_base.specs.Answer.{Answer}
 use Rattle.cp_base.specs.declared.commands.Command.{Command}
-use Rattle.cp_base.specs.declared.commands.Command.TheVariants as command
 use Rattle.cp_base.specs.declared.limits.TheConstants.{MAX_ITEMS, MAX_TRANSFER}
+use Rattle.device_model.specs.Sized.{IsSizedBy}
 use Rattle.trail_model.specs.declared.events.Event.{Event}
 use Rattle.trail_model.specs.declared.events.Event.TheVariants as event
 
@@ -14,22 +14,7 @@ EachByte bytes = AllByRecursion (λ byte. byte < 256) bytes
 
 -- the bytes of a command are bytes, it has no more ranges than a set may have, and its parameters have 64 bits
 abbrev pub CommandSized : Command → Type 0
-CommandSized (command.NvmRead ns lba count) = Unit {0}
-CommandSized (command.NvmWrite ns lba bytes) = EachByte bytes.items
-CommandSized (command.NvmZeroes ns lba count) = Unit {0}
-CommandSized (command.NvmCopy ns lba from) = Unit {0}
-CommandSized (command.MemRead ns at len) = Unit {0}
-CommandSized (command.MemWrite ns at bytes) = EachByte bytes.items
-CommandSized (command.MemFill ns at len value) = value < 256
-CommandSized (command.MemCopy ns at from) = Unit {0}
-CommandSized (command.SetCreate ranges) = length ranges ≤ MAX_ITEMS
-CommandSized (command.SetDelete set) = Unit {0}
-CommandSized (command.Load slot size at bytes) = EachByte bytes.items
-CommandSized (command.Unload slot) = Unit {0}
-CommandSized (command.Activate slot) = Unit {0}
-CommandSized (command.Deactivate slot) = Unit {0}
-CommandSized (command.Execute slot set p1 p2 budget) = (p1 < 2 ^ 64) × (p2 < 2 ^ 64)
-CommandSized (command.Abort cid) = Unit {0}
+CommandSized cmd = IsSizedBy EachByte (λ ranges. length ranges ≤ MAX_ITEMS) cmd
 
 -- the command that an event submits is sized
 abbrev pub EventSized : Event → Type 0

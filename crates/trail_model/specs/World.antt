@@ -3,12 +3,14 @@
 use Rattle.std.specs.Prelude.{ℕ, ◌+◌, ◌==◌, Bool, true, false, not, ◌||◌, if◌then◌else◌, List, [], ◌∷◌, ◌++◌, Option, Some, None, filter, find, is_some, length, option_and_then, option_map, slice_get}
 use Rattle.std.specs.List.{list_any}
 use Rattle.cp_base.specs.Answer.{Answer, only_status}
+use Rattle.cp_base.specs.Commands.{aborted_cid, nature_of}
 use Rattle.cp_base.specs.Configuration.{Configuration}
 use Rattle.cp_base.specs.Contents.{bytes_of}
 use Rattle.cp_base.specs.Known.{Known}
 use Rattle.cp_base.specs.Touching.{meets}
 use Rattle.cp_base.specs.declared.commands.Command.{Command}
-use Rattle.cp_base.specs.declared.commands.Command.TheVariants as command
+use Rattle.cp_base.specs.declared.commands.Nature.{Nature}
+use Rattle.cp_base.specs.declared.commands.Nature.TheVariants as nature
 use Rattle.cp_base.specs.declared.region.SpaceId.{SpaceId}
 use Rattle.cp_base.specs.declared.replies.Status.{Status}
 use Rattle.cp_base.specs.declared.replies.Status.TheVariants as status
@@ -126,22 +128,7 @@ queued_among submits = filter (λ (s : Submission). is_queued s.stage) submits
 
 -- the place of the submit that a host's new command names: of an Abort that of the outstanding command of its identifier
 abbrev pub named_place : List Submission → ℕ → Command → Option ℕ
-named_place submits host (command.NvmRead ns lba count) = None
-named_place submits host (command.NvmWrite ns lba bytes) = None
-named_place submits host (command.NvmZeroes ns lba count) = None
-named_place submits host (command.NvmCopy ns lba from) = None
-named_place submits host (command.MemRead ns at len) = None
-named_place submits host (command.MemWrite ns at bytes) = None
-named_place submits host (command.MemFill ns at len value) = None
-named_place submits host (command.MemCopy ns at from) = None
-named_place submits host (command.SetCreate ranges) = None
-named_place submits host (command.SetDelete set) = None
-named_place submits host (command.Load slot size at bytes) = None
-named_place submits host (command.Unload slot) = None
-named_place submits host (command.Activate slot) = None
-named_place submits host (command.Deactivate slot) = None
-named_place submits host (command.Execute slot set p1 p2 budget) = None
-named_place submits host (command.Abort cid) = option_map (λ (s : Submission). s.request.place) (outstanding_under submits host cid)
+named_place submits host cmd = option_and_then (λ cid. option_map (λ (s : Submission). s.request.place) (outstanding_under submits host cid)) (aborted_cid cmd)
 
 -- the submits, of which the one at a place has come so far
 abbrev pub staged : ℕ → Stage → List Submission → List Submission
@@ -201,24 +188,21 @@ is_free c w cmd =
     let touched : Footprint = footprint_of c (execution_of w.state cmd).ranges cmd in
     not (list_any (λ (claim : OpenClaim). meets touched (claimed_footprint c claim)) w.claims)
 
+-- whether a command of this nature would change a slot or a set that an open execution holds
+abbrev pub changes_held_by : List OpenClaim → Nature → Bool
+changes_held_by claims nature.Reads = false
+changes_held_by claims nature.Writes = false
+changes_held_by claims nature.Copies = false
+changes_held_by claims (nature.Executes slot set) = false
+changes_held_by claims nature.Builds = false
+changes_held_by claims nature.Arranges = false
+changes_held_by claims (nature.Deletes set) = is_set_held claims set
+changes_held_by claims (nature.Stops slot) = is_slot_held claims slot
+changes_held_by claims (nature.Withdraws cid) = false
+
 -- whether a command would change a slot or a set that an open execution holds
 abbrev pub changes_held : List OpenClaim → Command → Bool
-changes_held claims (command.NvmRead ns lba count) = false
-changes_held claims (command.NvmWrite ns lba bytes) = false
-changes_held claims (command.NvmZeroes ns lba count) = false
-changes_held claims (command.NvmCopy ns lba from) = false
-changes_held claims (command.MemRead ns at len) = false
-changes_held claims (command.MemWrite ns at bytes) = false
-changes_held claims (command.MemFill ns at len value) = false
-changes_held claims (command.MemCopy ns at from) = false
-changes_held claims (command.SetCreate ranges) = false
-changes_held claims (command.SetDelete set) = is_set_held claims set
-changes_held claims (command.Load slot size at bytes) = false
-changes_held claims (command.Unload slot) = false
-changes_held claims (command.Activate slot) = false
-changes_held claims (command.Deactivate slot) = is_slot_held claims slot
-changes_held claims (command.Execute slot set p1 p2 budget) = false
-changes_held claims (command.Abort cid) = false
+changes_held claims cmd = changes_held_by claims (nature_of cmd)
 
 -- A queued command may be picked where one of its checks fails in the tables as they are; where it moves bytes, none
 -- fails, and it meets no open claim; and where it moves no bytes and changes nothing that is held. A load, an unload or an

@@ -1,6 +1,6 @@
 use Rattle.std.proofs.Common.{◌∷◌, [], map, subst, sym, arith}
 use Rattle.std.specs.Prelude.{codes}
-use Rattle.cp_base.specs.declared.words.CommandWord.{CommandWord}
+use Rattle.cp_base.specs.declared.commands.CommandWord.{CommandWord}
 use Rattle.script_line.specs.Field.{IsShaped}
 use Rattle.script_line.specs.Fits.{values_fit}
 use Rattle.script_line.specs.Line.{command_fields, counts}
