@@ -53,7 +53,7 @@ execution_of s cmd = execution_by s (nature_of cmd)
 abbrev pub writable_ranges : List MemRange → List MemRange
 writable_ranges ranges = filter (λ (range : MemRange). allows_writing range.access) ranges
 
--- where the bytes lie that a command reads; an execution reads on these ranges
+-- where the bytes lie that a command reads, where it moves any; an execution reads on these ranges
 abbrev pub reads_of : Configuration → List MemRange → Command → List Region
 reads_of c ranges (command.NvmRead ns lba count) = record { space = space.Nvm ns; start = lba * c.block; len = count * c.block } ∷ []
 reads_of c ranges (command.NvmWrite ns lba bytes) = []
@@ -63,16 +63,10 @@ reads_of c ranges (command.MemRead ns at len) = record { space = space.Mem ns; s
 reads_of c ranges (command.MemWrite ns at bytes) = []
 reads_of c ranges (command.MemFill ns at len value) = []
 reads_of c ranges (command.MemCopy ns at from) = map (source_region c) from
-reads_of c ranges (command.SetCreate made) = []
-reads_of c ranges (command.SetDelete set) = []
-reads_of c ranges (command.Load slot size at bytes) = []
-reads_of c ranges (command.Unload slot) = []
-reads_of c ranges (command.Activate slot) = []
-reads_of c ranges (command.Deactivate slot) = []
 reads_of c ranges (command.Execute slot set p1 p2 budget) = map range_region ranges
-reads_of c ranges (command.Abort cid) = []
+reads_of c ranges _ = []
 
--- where the bytes lie that a command may write; an execution writes on these ranges
+-- where the bytes lie that a command may write, where it moves any; an execution writes on these ranges
 abbrev pub writes_of : Configuration → List MemRange → Command → List Region
 writes_of c ranges (command.NvmRead ns lba count) = []
 writes_of c ranges (command.NvmWrite ns lba bytes) = record { space = space.Nvm ns; start = lba * c.block; len = length bytes.items } ∷ []
@@ -82,14 +76,8 @@ writes_of c ranges (command.MemRead ns at len) = []
 writes_of c ranges (command.MemWrite ns at bytes) = record { space = space.Mem ns; start = at; len = length bytes.items } ∷ []
 writes_of c ranges (command.MemFill ns at len value) = record { space = space.Mem ns; start = at; len = len } ∷ []
 writes_of c ranges (command.MemCopy ns at from) = destination_of (space.Mem ns) at (map (source_region c) from) ∷ []
-writes_of c ranges (command.SetCreate made) = []
-writes_of c ranges (command.SetDelete set) = []
-writes_of c ranges (command.Load slot size at bytes) = []
-writes_of c ranges (command.Unload slot) = []
-writes_of c ranges (command.Activate slot) = []
-writes_of c ranges (command.Deactivate slot) = []
 writes_of c ranges (command.Execute slot set p1 p2 budget) = map range_region (writable_ranges ranges)
-writes_of c ranges (command.Abort cid) = []
+writes_of c ranges _ = []
 
 -- the slot that a command of this nature holds while it is carried out
 abbrev pub slot_held_by : Nature → Option ℕ

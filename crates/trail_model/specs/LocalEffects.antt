@@ -50,17 +50,11 @@ written c x all (command.MemRead ns at len) = gave (gathered all (space.Mem ns) 
 written c x all (command.MemWrite ns at bytes) = laid (space.Mem ns) at bytes.items
 written c x all (command.MemFill ns at len value) = laid (space.Mem ns) at (replicate len value)
 written c x all (command.MemCopy ns at from) = laid (space.Mem ns) at (gathered_joined all (map (source_region c) from))
-written c x all (command.SetCreate ranges) = gave []
-written c x all (command.SetDelete set) = gave []
-written c x all (command.Load slot size at bytes) = gave []
-written c x all (command.Unload slot) = gave []
-written c x all (command.Activate slot) = gave []
-written c x all (command.Deactivate slot) = gave []
 written c x all (command.Execute slot set p1 p2 budget) = record {
   answer = told_of budget (outcome_on x.runs x.ranges (memory_among all) p1 p2 budget).ending;
   pieces = ranges_with (outcome_on x.runs x.ranges (memory_among all) p1 p2 budget).memory (writable_ranges x.ranges);
 }
-written c x all (command.Abort cid) = gave []
+written c x all _ = gave []
 
 -- the same where the bytes of these pieces are all the bytes that there are
 abbrev pub local_effect : Configuration → Execution → List RegionBytes → Command → LocalEffect
