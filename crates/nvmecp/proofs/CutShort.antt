@@ -18,6 +18,8 @@ cut_due task input held faults old new ending.Refused within h is = absurd (omeg
 cut_due task input held faults old new ending.Denied within h is = absurd (omega (arith, is))
 cut_due task input held faults old new ending.WriteFault within h is = record { text = h.0.text; due = due_of task input h.0.text within h.0.due; front = h.0.front }
 cut_due task input held faults old new ending.NoMemory within h is = absurd (omega (arith, is))
+cut_due task input held faults old new ending.Usage within h is = absurd h
+cut_due task input held faults old new ending.ReadFault within h is = absurd h
 
 pub refused_due : {K : Type 0} (task : Task) (input : List ℕ) (held : K → Option (List ℕ)) (faults : K → ℕ) (old new : K) (end : Ending) → length input ≤ task.limit
     → EndsOn (task.Answers input) (task.Refuses input) (task.Denies input) held faults old new end → status_of end ≡ 2 → Writes (IsRefusal task input) (held old) (held new)
@@ -26,3 +28,5 @@ refused_due task input held faults old new ending.Refused within h is = record {
 refused_due task input held faults old new ending.Denied within h is = absurd (omega (arith, is))
 refused_due task input held faults old new ending.WriteFault within h is = absurd (omega (arith, is))
 refused_due task input held faults old new ending.NoMemory within h is = absurd (omega (arith, is))
+refused_due task input held faults old new ending.Usage within h is = absurd h
+refused_due task input held faults old new ending.ReadFault within h is = absurd h

@@ -25,6 +25,8 @@ weaker_on A B R S D E held faults old new ending.WriteFault answers refuses deni
   h.1,
 )
 weaker_on A B R S D E held faults old new ending.NoMemory answers refuses denies h = h
+weaker_on A B R S D E held faults old new ending.Usage answers refuses denies h = h
+weaker_on A B R S D E held faults old new ending.ReadFault answers refuses denies h = h
 
 -- what answers or refuses by one word does so by a weaker word
 pub weaker : {K : Type 0} (A B R S : List ℕ → Type 0) (held : K → Option (List ℕ)) (faults : K → ℕ) (old new : K) (end : Ending)
@@ -40,6 +42,8 @@ no_denial A R held faults old new ending.Refused h is = absurd cc
 no_denial A R held faults old new ending.Denied h is = h.due
 no_denial A R held faults old new ending.WriteFault h is = absurd cc
 no_denial A R held faults old new ending.NoMemory h is = absurd cc
+no_denial A R held faults old new ending.Usage h is = h
+no_denial A R held faults old new ending.ReadFault h is = h
 
 -- a line that tells a refusal refuses
 pub refused : {K : Type 0} (A R : List ℕ → Type 0) (text : List ℕ) (held : K → Option (List ℕ)) (faults : K → ℕ) (old new : K) (end : Ending) → R text

@@ -55,6 +55,8 @@ refused_only line held faults old new ending.WriteFault h (inl is) = absurd cc
 refused_only line held faults old new ending.WriteFault h (inr is) = absurd cc
 refused_only line held faults old new ending.NoMemory h (inl is) = absurd cc
 refused_only line held faults old new ending.NoMemory h (inr is) = absurd cc
+refused_only line held faults old new ending.Usage h other = h
+refused_only line held faults old new ending.ReadFault h other = h
 
 -- ---- what is judged
 
@@ -104,6 +106,8 @@ module _ (text history : List ℕ) (script : Script) (phases : List Phase) (r : 
     legal_ends ending.WriteFault h legal (inr is) = absurd cc
     legal_ends ending.NoMemory h legal (inl is) = absurd cc
     legal_ends ending.NoMemory h legal (inr is) = absurd cc
+    legal_ends ending.Usage h legal other = h
+    legal_ends ending.ReadFault h legal other = h
 
     pub illegal_ends : (end : Ending) → Judged end → IsIllegalFor text history → (end ≡ ending.Done) ⊎ (end ≡ ending.Refused) → ⊥
     illegal_ends ending.Done h illegal other = illegal_here illegal h.due.legal
@@ -114,6 +118,8 @@ module _ (text history : List ℕ) (script : Script) (phases : List Phase) (r : 
     illegal_ends ending.WriteFault h illegal (inr is) = absurd cc
     illegal_ends ending.NoMemory h illegal (inl is) = absurd cc
     illegal_ends ending.NoMemory h illegal (inr is) = absurd cc
+    illegal_ends ending.Usage h illegal other = h
+    illegal_ends ending.ReadFault h illegal other = h
 
 -- ---- what holding a history against a plan tells
 
@@ -138,3 +144,5 @@ denied_only line held faults old new ending.Refused h is = h.due
 denied_only line held faults old new ending.Denied h is = absurd cc
 denied_only line held faults old new ending.WriteFault h is = absurd cc
 denied_only line held faults old new ending.NoMemory h is = absurd cc
+denied_only line held faults old new ending.Usage h is = h
+denied_only line held faults old new ending.ReadFault h is = h

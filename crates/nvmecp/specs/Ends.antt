@@ -1,4 +1,4 @@
--- How the answer to an input ends. This project's own.
+-- How a run ends, and the answer to an input. This project's own.
 use Rattle.std.specs.Prelude.{◌≡◌, ℕ, ◌⊎◌, List, Option}
 use Rattle.std.specs.Io.KnownBytes.{Appends}
 use Rattle.cp_io.specs.Counting.{Rose}
@@ -20,7 +20,7 @@ pub record WritesFront (IsDue : List ℕ → Type 0) (held held' : Option (List 
 
 -- What an ending says of a sink, before and after, by what it holds and how often it has failed: a text
 -- that answers, one that refuses or one that denies is written; or it has failed behind a front of one of them; or memory
--- was wanting and it is as before.
+-- was wanting and it is as before. An answer does not end by wrong words or by a fault of the source.
 abbrev pub EndsOn : {K : Type 0} → (List ℕ → Type 0) → (List ℕ → Type 0) → (List ℕ → Type 0) → (K → Option (List ℕ)) → (K → ℕ) → K → K → Ending → Type 0
 EndsOn Answers Refuses Denies held faults sink sink' ending.Done = Writes Answers (held sink) (held sink')
 EndsOn Answers Refuses Denies held faults sink sink' ending.Refused = Writes Refuses (held sink) (held sink')
@@ -28,6 +28,8 @@ EndsOn Answers Refuses Denies held faults sink sink' ending.Denied = Writes Deni
 EndsOn Answers Refuses Denies held faults sink sink' ending.WriteFault =
     WritesFront (λ text. Answers text ⊎ (Refuses text ⊎ Denies text)) (held sink) (held sink') × Rose (faults sink) (faults sink')
 EndsOn Answers Refuses Denies held faults sink sink' ending.NoMemory = sink' ≡ sink
+EndsOn Answers Refuses Denies held faults sink sink' ending.Usage = ⊥
+EndsOn Answers Refuses Denies held faults sink sink' ending.ReadFault = ⊥
 
 -- the same where nothing is denied
 abbrev pub EndsBy : {K : Type 0} → (List ℕ → Type 0) → (List ℕ → Type 0) → (K → Option (List ℕ)) → (K → ℕ) → K → K → Ending → Type 0
@@ -48,7 +50,9 @@ EndsDenied text held faults sink sink' end = EndsOn (λ answer. ⊥) (λ told. �
 -- the status of an ending
 abbrev pub status_of : Ending → ℕ
 status_of ending.Done = 0
+status_of ending.Usage = 1
 status_of ending.Refused = 2
-status_of ending.Denied = 6
+status_of ending.ReadFault = 3
 status_of ending.WriteFault = 4
 status_of ending.NoMemory = 5
+status_of ending.Denied = 6

@@ -1,16 +1,20 @@
-// How the answer to an input ends, and the statuses with which the program ends.
+// How a run of the program ends.
 ghost use Rattle.std.specs.Prelude.{◌≡◌};
 ghost use Rattle.nvmecp.specs.Ends.{status_of};
 
-/// How the answer to an input ended.
+/// How a run ended.
 #[derive(Clone, Copy, Debug, PartialEq, Eq)]
 pub enum Ending {
     /// The whole text is written.
     Done,
+    /// The words ask for nothing that the program does.
+    Usage,
     /// The input is refused, and a line that tells it is written.
     Refused,
     /// What the input says does not hold, and a line that tells it is written.
     Denied,
+    /// The source failed, and nothing is written.
+    ReadFault,
     /// The sink failed.
     WriteFault,
     /// Memory is wanting, and nothing is written.
@@ -24,17 +28,12 @@ impl Ending {
     {
         match self {
             Ending::Done => 0,
+            Ending::Usage => 1,
             Ending::Refused => 2,
-            Ending::Denied => 6,
+            Ending::ReadFault => 3,
             Ending::WriteFault => 4,
-            Ending::NoMemory => NO_MEMORY,
+            Ending::NoMemory => 5,
+            Ending::Denied => 6,
         }
     }
 }
-
-/// The words ask for nothing that the program does.
-pub const USAGE: u8 = 1;
-/// The source failed.
-pub const READ_FAULT: u8 = 3;
-/// Memory is wanting, and nothing is written.
-pub const NO_MEMORY: u8 = 5;

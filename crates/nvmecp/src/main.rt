@@ -32,7 +32,7 @@ mod words;
 
 use cp_base::NoMemory;
 use cp_io::{Sink, Source, StdSink, StdSource};
-use ending::{NO_MEMORY, USAGE};
+use ending::Ending;
 use run::run;
 use serve::serve;
 use std::alloc::Global;
@@ -62,9 +62,9 @@ fn status_without_words(error: &io::Error) -> u8
     ensures usage { error_kind error.now ≢ ErrorKind.OutOfMemory → result ≡ 1 }
 {
     if error.kind() == ErrorKind::OutOfMemory {
-        NO_MEMORY
+        Ending::NoMemory.status()
     } else {
-        USAGE
+        Ending::Usage.status()
     }
 }
 
@@ -115,7 +115,7 @@ fn run_on<R: Threads + Wait + Sync, S: Source, K: Sink>(
 {
     match words_behind_the_name(alloc, args) {
         Ok(words) => ExitCode::from(run_words(rt, alloc, words.as_slice(), source, sink)),
-        Err(NoMemory) => ExitCode::from(NO_MEMORY),
+        Err(NoMemory) => ExitCode::from(Ending::NoMemory.status()),
     }
 }
 

@@ -3,13 +3,13 @@ ghost use Rattle.std.specs.Prelude.{◌≡◌, ℕ, ◌≤◌, ◌⊎◌, ◌↔
 ghost use Rattle.std.specs.String.{string_bytes};
 ghost use Rattle.cp_io.specs.Counting.{Rose};
 ghost use Rattle.cp_line.specs.declared.limits.TheConstants.{MAX_MADE};
-ghost use Rattle.nvmecp.specs.Ends.{Writes, WritesFront};
+ghost use Rattle.nvmecp.specs.Ends.{Writes, WritesFront, status_of};
 ghost use Rattle.nvmecp.specs.Make.{IsSummary};
 ghost use Rattle.nvmecp.specs.Run.{Done, IsCutShort, IsDenied, IsMade, IsRefused, NoFault};
 ghost use Rattle.nvmecp.specs.Words.{HasWorkers, asked_of, errand_of, load_of, task_of};
 ghost use Rattle.nvmecp.specs.declared.words.Asked.{Asked};
 
-use crate::ending::{NO_MEMORY, READ_FAULT, USAGE};
+use crate::ending::Ending;
 use crate::make;
 use crate::refusing::refuse;
 use crate::words::{Asked, Errand, Load, read_words};
@@ -22,41 +22,41 @@ fn read_and_answer<S: Source, K: Sink>(
     asked: Asked,
     source: &mut S,
     sink: &mut K,
-) -> u8
+) -> Ending
     requires { HasWorkers asked }
-    ensures status { (result ≡ 0) ⊎ (result ≡ 2) ⊎ (result ≡ 3) ⊎ (result ≡ 4) ⊎ (result ≡ 5) ⊎ (result ≡ 6) }
-    ensures done { result ≡ 0 → Done (task_of asked) S.left S.given K.held source.old source.new sink.old sink.new }
-    ensures refused { result ≡ 2 → IsRefused (task_of asked) S.left S.given K.held source.old source.new sink.old sink.new }
-    ensures denied { result ≡ 6 → IsDenied (task_of asked) S.left S.given K.held source.old source.new sink.old sink.new }
-    ensures cut_short { result ≡ 4 → IsCutShort (task_of asked) S.left S.given K.held source.old source.new sink.old sink.new }
-    ensures read_fault { result ≡ 3 → Rose (S.faults source.old) (S.faults source.new) }
-    ensures write_fault { result ≡ 4 → Rose (K.faults sink.old) (K.faults sink.new) }
-    ensures unwritten { (result ≡ 3) ⊎ (result ≡ 5) → sink.new ≡ sink.old }
+    ensures status { (status_of result ≡ 0) ⊎ (status_of result ≡ 2) ⊎ (status_of result ≡ 3) ⊎ (status_of result ≡ 4) ⊎ (status_of result ≡ 5) ⊎ (status_of result ≡ 6) }
+    ensures done { status_of result ≡ 0 → Done (task_of asked) S.left S.given K.held source.old source.new sink.old sink.new }
+    ensures refused { status_of result ≡ 2 → IsRefused (task_of asked) S.left S.given K.held source.old source.new sink.old sink.new }
+    ensures denied { status_of result ≡ 6 → IsDenied (task_of asked) S.left S.given K.held source.old source.new sink.old sink.new }
+    ensures cut_short { status_of result ≡ 4 → IsCutShort (task_of asked) S.left S.given K.held source.old source.new sink.old sink.new }
+    ensures read_fault { status_of result ≡ 3 → Rose (S.faults source.old) (S.faults source.new) }
+    ensures write_fault { status_of result ≡ 4 → Rose (K.faults sink.old) (K.faults sink.new) }
+    ensures unwritten { (status_of result ≡ 3) ⊎ (status_of result ≡ 5) → sink.new ≡ sink.old }
     ensures accepted { (input : List ℕ) → S.left source.old ≡ Some input → length input ≤ (task_of asked).limit
-        → (task_of asked).Accepts input → (result ≡ 2) ⊎ (result ≡ 6) → ⊥ }
+        → (task_of asked).Accepts input → (status_of result ≡ 2) ⊎ (status_of result ≡ 6) → ⊥ }
     ensures rejected { (input : List ℕ) → S.left source.old ≡ Some input → (task_of asked).Rejects input
-        → (result ≡ 0) ⊎ (result ≡ 6) → ⊥ }
+        → (status_of result ≡ 0) ⊎ (status_of result ≡ 6) → ⊥ }
     ensures belied { (input : List ℕ) → S.left source.old ≡ Some input → length input ≤ (task_of asked).limit
-        → (task_of asked).Belies input → (result ≡ 0) ⊎ (result ≡ 2) → ⊥ }
+        → (task_of asked).Belies input → (status_of result ≡ 0) ⊎ (status_of result ≡ 2) → ⊥ }
 {
     match read_all(alloc, source, asked.limit()) {
-        Ok(input) => asked.answer(alloc, &input, sink).status(),
-        Err(ReadEnd::TooLong) => refuse(sink, b"too long\n").status(),
-        Err(ReadEnd::Fault) => READ_FAULT,
-        Err(ReadEnd::NoMemory) => NO_MEMORY,
+        Ok(input) => asked.answer(alloc, &input, sink),
+        Err(ReadEnd::TooLong) => refuse(sink, b"too long\n"),
+        Err(ReadEnd::Fault) => Ending::ReadFault,
+        Err(ReadEnd::NoMemory) => Ending::NoMemory,
     }
 }
 
 // Makes a load and sums it up.
-fn make_and_sum_up<K: Sink>(alloc: Global, load: Load, sink: &mut K) -> u8
+fn make_and_sum_up<K: Sink>(alloc: Global, load: Load, sink: &mut K) -> Ending
     requires { load.commands ≤ MAX_MADE }
-    ensures status { (result ≡ 0) ⊎ (result ≡ 4) ⊎ (result ≡ 5) }
-    ensures done { result ≡ 0 → Writes (IsSummary load) (K.held sink.old) (K.held sink.new) }
-    ensures cut_short { result ≡ 4 → WritesFront (IsSummary load) (K.held sink.old) (K.held sink.new) }
-    ensures write_fault { result ≡ 4 → Rose (K.faults sink.old) (K.faults sink.new) }
-    ensures unwritten { result ≡ 5 → sink.new ≡ sink.old }
+    ensures status { (status_of result ≡ 0) ⊎ (status_of result ≡ 4) ⊎ (status_of result ≡ 5) }
+    ensures done { status_of result ≡ 0 → Writes (IsSummary load) (K.held sink.old) (K.held sink.new) }
+    ensures cut_short { status_of result ≡ 4 → WritesFront (IsSummary load) (K.held sink.old) (K.held sink.new) }
+    ensures write_fault { status_of result ≡ 4 → Rose (K.faults sink.old) (K.faults sink.new) }
+    ensures unwritten { status_of result ≡ 5 → sink.new ≡ sink.old }
 {
-    make::answer(alloc, load, sink).status()
+    make::answer(alloc, load, sink)
 }
 
 /// Runs every word but `serve`: the words behind the program's name, the source of its input and the
@@ -101,9 +101,10 @@ pub fn run<S: Source, K: Sink>(alloc: Global, words: &[String], source: &mut S, 
         → length input ≤ (task_of asked).limit → (task_of asked).Belies input
         → NoFault S.faults K.faults source.old source.new sink.old sink.new → (result ≡ 6) ⊎ (result ≡ 5) }
 {
-    match read_words(words) {
+    let ending = match read_words(words) {
         Some(Errand::Answer(asked)) => read_and_answer(alloc, asked, source, sink),
         Some(Errand::Make(load)) => make_and_sum_up(alloc, load, sink),
-        None => USAGE,
-    }
+        None => Ending::Usage,
+    };
+    ending.status()
 }

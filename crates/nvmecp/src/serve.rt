@@ -7,14 +7,14 @@ ghost use Rattle.history_model.specs.Plain.{plain_phases};
 ghost use Rattle.history_model.specs.Rules.{KeepsRules};
 ghost use Rattle.history_model.specs.Sent.{sends_of};
 ghost use Rattle.schedule_model.specs.Deeds.{HostsDid};
-ghost use Rattle.nvmecp.specs.Ends.{EndsAnswered, EndsBy};
+ghost use Rattle.nvmecp.specs.Ends.{EndsAnswered, EndsBy, status_of};
 ghost use Rattle.nvmecp.specs.Finished.{IsFinished};
 ghost use Rattle.nvmecp.specs.Planned.{IsPlanned};
 ghost use Rattle.nvmecp.specs.Run.{Done, IsCutShort, IsRefused, NoFault};
 ghost use Rattle.nvmecp.specs.Serve.{IsPrintOfHosts, serve_task};
 ghost use Rattle.nvmecp.specs.Words.{AreInRange, workers_of_words};
 
-use crate::ending::{Ending, NO_MEMORY, READ_FAULT, USAGE};
+use crate::ending::Ending;
 use crate::finished::{Finished, line_buffer, show_buffer};
 use crate::planned::planned_script;
 use crate::printing::print;
@@ -108,24 +108,24 @@ fn read_and_answer<R: Threads + Wait + Sync, S: Source, K: Sink, G: Gate>(
     source: &mut S,
     sink: &mut K,
     gate: &G,
-) -> u8
+) -> Ending
     requires workers { (1 ≤ workers) × (workers ≤ MAX_HOSTS) }
-    ensures status { (result ≡ 0) ⊎ (result ≡ 2) ⊎ (result ≡ 3) ⊎ (result ≡ 4) ⊎ (result ≡ 5) }
-    ensures done { result ≡ 0 → Done serve_task S.left S.given K.held source.old source.new sink.old sink.new }
-    ensures refused { result ≡ 2 → IsRefused serve_task S.left S.given K.held source.old source.new sink.old sink.new }
-    ensures cut_short { result ≡ 4 → IsCutShort serve_task S.left S.given K.held source.old source.new sink.old sink.new }
-    ensures read_fault { result ≡ 3 → Rose (S.faults source.old) (S.faults source.new) }
-    ensures write_fault { result ≡ 4 → Rose (K.faults sink.old) (K.faults sink.new) }
-    ensures unwritten { (result ≡ 3) ⊎ (result ≡ 5) → sink.new ≡ sink.old }
+    ensures status { (status_of result ≡ 0) ⊎ (status_of result ≡ 2) ⊎ (status_of result ≡ 3) ⊎ (status_of result ≡ 4) ⊎ (status_of result ≡ 5) }
+    ensures done { status_of result ≡ 0 → Done serve_task S.left S.given K.held source.old source.new sink.old sink.new }
+    ensures refused { status_of result ≡ 2 → IsRefused serve_task S.left S.given K.held source.old source.new sink.old sink.new }
+    ensures cut_short { status_of result ≡ 4 → IsCutShort serve_task S.left S.given K.held source.old source.new sink.old sink.new }
+    ensures read_fault { status_of result ≡ 3 → Rose (S.faults source.old) (S.faults source.new) }
+    ensures write_fault { status_of result ≡ 4 → Rose (K.faults sink.old) (K.faults sink.new) }
+    ensures unwritten { (status_of result ≡ 3) ⊎ (status_of result ≡ 5) → sink.new ≡ sink.old }
     ensures accepted { (input : List ℕ) → S.left source.old ≡ Some input → length input ≤ serve_task.limit
-        → serve_task.Accepts input → result ≡ 2 → ⊥ }
-    ensures rejected { (input : List ℕ) → S.left source.old ≡ Some input → serve_task.Rejects input → result ≡ 0 → ⊥ }
+        → serve_task.Accepts input → status_of result ≡ 2 → ⊥ }
+    ensures rejected { (input : List ℕ) → S.left source.old ≡ Some input → serve_task.Rejects input → status_of result ≡ 0 → ⊥ }
 {
     match read_all(alloc, source, VERSION_1.bytes) {
-        Ok(input) => answer(rt, alloc, &input, workers, sink, gate).status(),
-        Err(ReadEnd::TooLong) => refuse(sink, b"too long\n").status(),
-        Err(ReadEnd::Fault) => READ_FAULT,
-        Err(ReadEnd::NoMemory) => NO_MEMORY,
+        Ok(input) => answer(rt, alloc, &input, workers, sink, gate),
+        Err(ReadEnd::TooLong) => refuse(sink, b"too long\n"),
+        Err(ReadEnd::Fault) => Ending::ReadFault,
+        Err(ReadEnd::NoMemory) => Ending::NoMemory,
     }
 }
 
@@ -182,8 +182,9 @@ pub fn serve<R: Threads + Wait + Sync, S: Source, K: Sink, G: Gate>(
         → length input ≤ serve_task.limit → serve_task.Rejects input
         → NoFault S.faults K.faults source.old source.new sink.old sink.new → (result ≡ 2) ⊎ (result ≡ 5) }
 {
-    match read_workers(words) {
+    let ending = match read_workers(words) {
         Some(workers) => read_and_answer(rt, alloc, workers, source, sink, gate),
-        None => USAGE,
-    }
+        None => Ending::Usage,
+    };
+    ending.status()
 }

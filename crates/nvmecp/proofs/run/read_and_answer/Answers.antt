@@ -1,4 +1,4 @@
-use Rattle.std.proofs.Common.{rules, ◌≡◌, ◌≤◌, length, sym, ◌∙◌}
+use Rattle.std.proofs.Common.{rules, ◌≡◌, ◌≤◌, length}
 use Rattle.nvmecp.specs.Words.{task_of}
 use Rattle.nvmecp.proofs.CutShort.{cut_due}
 use Rattle.nvmecp.proofs.run.read_and_answer.Goals as goal
@@ -11,5 +11,5 @@ returns-in-Ok-clause-cut_short g c four =
       input = c.in-Ok.input.items;
       gave = search rules;
       at_end = λ short. search rules;
-      writes = cut_due task c.in-Ok.input.items g.K.Sink.held g.K.Sink.faults c.args.sink.now c.answer.new.sink c.answer.result within c.answer.ensures.ends (sym c.status.ensures ∙ four);
+      writes = cut_due task c.in-Ok.input.items g.K.Sink.held g.K.Sink.faults c.args.sink.now c.answer.new.sink c.answer.result within c.answer.ensures.ends four;
     }
