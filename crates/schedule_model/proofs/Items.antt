@@ -6,7 +6,7 @@ use Rattle.script_cmds.specs.declared.item.Item.{Item}
 use Rattle.script_cmds.specs.declared.item.Item.TheVariants as item
 use Rattle.history_model.specs.Plain.{PlainItem, Sends, Takes, plain_items}
 use Rattle.history_model.specs.Rules.{KeepsQueue, without}
-use Rattle.history_model.specs.Sent.{Sent, Waiting, named_by_submit, ordinals_of, sends_of_items}
+use Rattle.history_model.specs.Sent.{Sent, Waiting, named_in, ordinals_of, sends_of_items}
 use Rattle.trail_model.specs.Lawful.{Trail}
 use Rattle.trail_model.specs.declared.events.Event.{Event}
 use Rattle.trail_model.specs.declared.events.Event.TheVariants as event
@@ -40,7 +40,7 @@ after_items a [] = a
 after_items a (i ∷ items) = after_items (after_item a i) items
 
 abbrev pub sent_by : ℕ → ℕ → Standing → ℕ → Command → Sent
-sent_by host phase a cid cmd = record { host = host; ordinal = a.ordinal; cid = cid; phase = phase; command = cmd; taken = a.taken; named = named_by_submit a.waiting cmd }
+sent_by host phase a cid cmd = record { host = host; ordinal = a.ordinal; cid = cid; phase = phase; command = cmd; taken = a.taken; named = named_in a.waiting cmd }
 
 -- the commands that a host sends by these items
 abbrev pub sends_by : ℕ → ℕ → Standing → List PlainItem → List Sent

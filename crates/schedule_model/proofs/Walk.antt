@@ -10,7 +10,7 @@ use Rattle.cp_base.specs.declared.commands.Command.{Command}
 use Rattle.cp_base.specs.declared.commands.Command.TheVariants as command
 use Rattle.cp_base.specs.declared.replies.Status.TheVariants as status
 use Rattle.history_model.specs.Plain.{Sends, Takes}
-use Rattle.history_model.specs.Sent.{Sent, Waiting, named_by_submit, ordinals_of}
+use Rattle.history_model.specs.Sent.{Sent, Waiting, named_in, ordinals_of}
 use Rattle.trail_model.specs.Accounts.{Outstanding, outstanding_in}
 use Rattle.trail_model.specs.Each.{EachTwo}
 use Rattle.trail_model.specs.Lawful.{IsAllowedIn, IsLawful, MayClaim, MayDo, MayFinish, Trail, world_of}
@@ -110,14 +110,14 @@ look-same (x ∷ submits) place s e = by_test (x.request.place == place) e (look
 
 -- what a new command names
 new-names : (w : World) (A : ℕ → Standing) (by cid ordinal p : ℕ) (cmd : Command) → Stands w A → IsLinked w → (place : ℕ) → named_place w.submits by cmd ≡ Some place
-    → (o : Request) × (look (requests_of w.submits ++ request_of w by cid ordinal cmd ∷ []) place ≡ Some o) × (o.host ≡ by) × (named_by_submit (A by).waiting cmd ≡ Some o.ordinal)
+    → (o : Request) × (look (requests_of w.submits ++ request_of w by cid ordinal cmd ∷ []) place ≡ Some o) × (o.host ≡ by) × (named_in (A by).waiting cmd ≡ Some o.ordinal)
 new-names w A by cid ordinal p (command.Abort other) h linked place e = by_found (outstanding_under w.submits by other) refl e
   where
     r : Request
     r = request_of w by cid ordinal (command.Abort other)
 
     by_found : (o : Option Submission) → outstanding_under w.submits by other ≡ o → option_map (λ (s : Submission). s.request.place) o ≡ Some place
-        → (o : Request) × (look (requests_of w.submits ++ request_of w by cid ordinal (command.Abort other) ∷ []) place ≡ Some o) × (o.host ≡ by) × (named_by_submit (A by).waiting (command.Abort other) ≡ Some o.ordinal)
+        → (o : Request) × (look (requests_of w.submits ++ request_of w by cid ordinal (command.Abort other) ∷ []) place ≡ Some o) × (o.host ≡ by) × (named_in (A by).waiting (command.Abort other) ≡ Some o.ordinal)
     by_found None found e = absurd (none-some place e)
     by_found (Some s) found e =
         let at : s.request.place ≡ place = some-same s.request.place place e in
