@@ -27,13 +27,13 @@ pub record AreExact (form : Form) (depth : ℕ) : Type 0 where
   pub multiple : depth ≡ queues_of form * queue_depth form depth
 
 -- the queue of an identifier, counted from 0: each has 65,536 identifiers
-abbrev pub queue_of : ℕ → ℕ
-queue_of cid = cid / 65536
+abbrev pub queue_of_cid : ℕ → ℕ
+queue_of_cid cid = cid / 65536
 
 -- each command that items send goes to one of so many queues
 abbrev pub SendToQueues : ℕ → List Item → Type 0
 SendToQueues queues [] = Unit {0}
-SendToQueues queues (item.Send cid command ∷ items) = (queue_of cid < queues) × SendToQueues queues items
+SendToQueues queues (item.Send cid command ∷ items) = (queue_of_cid cid < queues) × SendToQueues queues items
 SendToQueues queues (item.Take cid ∷ items) = SendToQueues queues items
 
 -- the same of each part of a phase

@@ -49,9 +49,9 @@ abbrev pub Fails : {Y : Type 0} → LineEnd → Result Y TextCause → Type 0
 Fails ends.NoMemory read = Unit {0}
 Fails (ends.Fault cause) read = read ≡ Err cause
 
-abbrev pub Gives : {X Y : Type 0} → (X → Y) → Result X LineEnd → Result Y TextCause → Type 0
-Gives view (Ok x) read = read ≡ Ok (view x)
-Gives view (Err e) read = Fails e read
+abbrev pub ReadsAs : {X Y : Type 0} → (X → Y) → Result X LineEnd → Result Y TextCause → Type 0
+ReadsAs view (Ok x) read = read ≡ Ok (view x)
+ReadsAs view (Err e) read = Fails e read
 
 -- the number that a field says; 0 where there is none
 abbrev pub number_in : Option Value → ℕ
