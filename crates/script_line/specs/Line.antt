@@ -11,7 +11,7 @@ use Rattle.script_line.specs.declared.kind.LineKind.{LineKind}
 use Rattle.script_line.specs.declared.kind.LineKind.TheVariants.{Header, Namespace, Phase, Host, Send, Take, Show}
 use Rattle.script_line.specs.declared.kind.SpaceKind.{SpaceKind}
 use Rattle.script_line.specs.declared.kind.SpaceKind.TheVariants.{Nvm, Mem}
-use Rattle.script_line.specs.declared.limits.TheConstants.{MAX_CID, MAX_32, MAX_64, MAX_VALUE, VERSION_1, VERSION_2}
+use Rattle.script_line.specs.declared.limits.TheConstants.{MAX_CID, MAX_32, MAX_64, MAX_VALUE, QUEUE_CIDS, VERSION_1, VERSION_2}
 use Rattle.script_line.specs.declared.version.Version.{Version}
 use Rattle.script_line.specs.declared.version.Version.TheVariants.{One, Two}
 use Rattle.script_line.specs.Field.{Field, Word, Number, Identifier, Hex, Sources, Ranges, Value, Count, Queued, Data, Copied, Covered, field_texts}
@@ -99,7 +99,7 @@ counts numbers = map (λ n. Count n) numbers
 -- what the identifier of a command says, which the device counts over all queues
 abbrev pub identifier_value : Version → ℕ → Value
 identifier_value One id = Count id
-identifier_value Two id = Queued (id / 65536 + 1) (id % 65536)
+identifier_value Two id = Queued (id / QUEUE_CIDS + 1) (id % QUEUE_CIDS)
 
 -- what the fields of a send line say behind the identifier
 abbrev pub command_values : Version → Command → List Value

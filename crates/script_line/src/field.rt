@@ -11,7 +11,7 @@ ghost use Rattle.script_line.specs.declared.limits.TheConstants.{MAX_32};
 ghost use Rattle.script_line.specs.private.Outcomes.{data_in, field_view, ranges_at, ranges_in, sources_at, sources_in};
 ghost use Rattle.script_line.specs.private.Pushed.{front_of, is_word};
 
-use crate::limits::{MAX_32, MAX_CID, VERSION_2};
+use crate::limits::{MAX_32, MAX_CID, QUEUE_CIDS, VERSION_2};
 use cp_base::{Access, Bytes, MAX_ITEMS};
 use std::alloc::Global;
 
@@ -178,7 +178,7 @@ impl FieldValue {
     {
         match self {
             FieldValue::Count(n) => *n,
-            FieldValue::Queued(queue, cid) => queue.saturating_sub(1) * 65_536 + *cid,
+            FieldValue::Queued(queue, cid) => queue.saturating_sub(1) * QUEUE_CIDS + *cid,
             FieldValue::Data(_) | FieldValue::Copied(_) | FieldValue::Covered(_) => 0,
         }
     }

@@ -7,6 +7,7 @@ ghost use Rattle.history_model.specs.Rules.{without};
 use crate::queues::QueueCounts;
 use cp_base::NoMemory;
 use indexmap::IndexSet;
+use script_line::QUEUE_CIDS;
 use std::alloc::Global;
 use std::marker::Model;
 
@@ -21,7 +22,7 @@ pub(crate) struct Outstanding {
 fn queue_of(cid: u32) -> u32
     ensures { result ≡ queue_of_cid cid }
 {
-    cid / 65_536
+    cid / QUEUE_CIDS as u32
 }
 
 impl Model for Outstanding {
