@@ -23,7 +23,7 @@ use Rattle.bpf_asm.specs.declared.mnemonic.Mnemonic.TheVariants as word
 use Rattle.bpf_asm.specs.declared.mnemonic.TheConstants.{MNEMONICS}
 use Rattle.bpf_asm.specs.declared.source.Source.{Source}
 use Rattle.bpf_asm.specs.declared.source.Source.TheVariants as source
-use Rattle.cp_text.specs.Number.{number_of}
+use Rattle.cp_text.specs.Number.{spelled_number}
 use Rattle.bpf_asm.specs.declared.operand.Operand.TheVariants.{Register, Signed}
 use Rattle.bpf_asm.specs.Reading.{insn_with, insn_in, mnemonic_named, dst_source, dst_bits, dst_src_offset, dst_offset_src, read_one, read_two, read_three, register_in, offset_in, imm_in, source_in, move_to_32, move_to_64, helper_named, binary_by, division_by, move_by, branch_by}
 use Rattle.std.specs.Fmt.{signed_decimal}
@@ -116,7 +116,7 @@ reads word.Swap ps i b e =
     let r = two_spelled (registers 9 nine) widths ps m.0 m.1 in
     subst (λ (x : Insn). Says word.Swap ps x) m.2 (record { mnemonic = refl; operands = r.0; allowed = r.1 })
 reads word.LoadImm ps i b e =
-    let m = mapped (λ (p : ℕ × ℕ). insn.LoadImm p.0 p.1) (read_two (register_in 9) number_of ps) i e in
+    let m = mapped (λ (p : ℕ × ℕ). insn.LoadImm p.0 p.1) (read_two (register_in 9) spelled_number ps) i e in
     let r = two_spelled (registers 9 nine) numbers ps m.0 m.1 in
     subst (λ (x : Insn). Says word.LoadImm ps x) m.2 (record { mnemonic = refl; operands = r.0; allowed = (r.1, r.2) })
 reads (word.Load size) ps i b e =

@@ -13,9 +13,9 @@ use Rattle.bpf_isa.specs.declared.operation.AluOp.TheVariants as alu
 use Rattle.bpf_model.specs.Encoding.{alu_offset, is_move_32, is_move_64}
 use Rattle.bpf_model.specs.Form.{named, swap_imms, move_offsets_32, move_offsets_64}
 use Rattle.bpf_model.proofs.Tables.{move_32, move_64, swap_width}
-use Rattle.cp_text.specs.Number.{number_of}
+use Rattle.cp_text.specs.Number.{spelled_number}
 use Rattle.cp_text.specs.Signed.{AreSignedDigits, signed_of}
-use Rattle.cp_text.proofs.NumberTexts.{number_of-spelled, number_of-decimal}
+use Rattle.cp_text.proofs.NumberTexts.{spelled_number-spelled, spelled_number-decimal}
 use Rattle.cp_text.proofs.SignedTexts.{signed_of-spelled, signed_of-decimal, signed_decimal-are_digits}
 use Rattle.bpf_asm.specs.Line.{operand_text}
 use Rattle.bpf_asm.specs.declared.operand.Operand.TheVariants.{Register, Signed, Number}
@@ -61,17 +61,17 @@ register-spelled : (greatest : ℕ) (t : List ℕ) (r : ℕ) → register_in gre
 register-spelled greatest [] r e = absurd cc
 register-spelled greatest (c ∷ rest) r e = by_first (eqb c 114) refl e
   where
-    by_first : (b : Bool) → eqb c 114 ≡ b → cond b (at_most greatest (number_of rest)) None ≡ Some r → (c ∷ rest ≡ 114 ∷ decimal r) × (r ≤ greatest)
+    by_first : (b : Bool) → eqb c 114 ≡ b → cond b (at_most greatest (spelled_number rest)) None ≡ Some r → (c ∷ rest ≡ 114 ∷ decimal r) × (r ≤ greatest)
     by_first true h e =
-        let a = at_most-some greatest (number_of rest) r e in
-        let n = number_of-spelled rest r a.0 in
+        let a = at_most-some greatest (spelled_number rest) r e in
+        let n = spelled_number-spelled rest r a.0 in
         let is : c ≡ 114 = eqb-true c 114 h in
         (ap (λ (x : ℕ). x ∷ rest) is ∙ ap (λ (x : List ℕ). 114 ∷ x) n.0, a.1)
     by_first false h e = absurd cc
 
 register-again : (greatest : ℕ) → greatest ≤ 10 → (r : ℕ) → r ≤ greatest → register_in greatest (operand_text (Register r)) ≡ Some r
 register-again greatest low r h =
-    let n : number_of (decimal r) ≡ Some r = number_of-decimal r (omega arith) in
+    let n : spelled_number (decimal r) ≡ Some r = spelled_number-decimal r (omega arith) in
     let t : leb r greatest ≡ true = le-leb r greatest h in
     ap (at_most greatest) n ∙ ap (λ (b : Bool). cond b (Some r) None) t
 
@@ -182,21 +182,21 @@ sources = record { spelled = source-spelled; again = source-again }
 
 -- ---- numbers
 
-pub numbers : Spelling (λ n. operand_text (Number n)) number_of (λ n. n < 2 ^ 64)
-numbers = record { spelled = number_of-spelled; again = number_of-decimal }
+pub numbers : Spelling (λ n. operand_text (Number n)) spelled_number (λ n. n < 2 ^ 64)
+numbers = record { spelled = spelled_number-spelled; again = spelled_number-decimal }
 
 -- what is read as a number is spelled as any number equal to it
-number_of_is : (t : List ℕ) (n m : ℕ) → number_of t ≡ Some n → m ≡ n → t ≡ decimal m
-number_of_is t n m e h = (number_of-spelled t n e).0 ∙ ap decimal (sym h)
+number_of_is : (t : List ℕ) (n m : ℕ) → spelled_number t ≡ Some n → m ≡ n → t ≡ decimal m
+number_of_is t n m e h = (spelled_number-spelled t n e).0 ∙ ap decimal (sym h)
 
 pub helpers : Spelling (λ n. operand_text (Number 1)) helper_named (λ n. n ≡ 1)
 helpers = record {
   spelled = λ t n e.
-      let m = then_some (λ n. cond (eqb n 1) (Some n) None) (number_of t) n e in
+      let m = then_some (λ n. cond (eqb n 1) (Some n) None) (spelled_number t) n e in
       let c = if_some (eqb m.0 1) m.0 n m.2 in
       let one : m.0 ≡ 1 = eqb-true m.0 1 c.0 in
-      ((number_of-spelled t 1 (m.1 ∙ ap (λ (k : ℕ). Some k) one)).0, sym c.1 ∙ one);
-  again = λ n h. ap (option_and_then (λ n. cond (eqb n 1) (Some n) None)) (number_of-decimal 1 (omega arith)) ∙ ap (λ (k : ℕ). Some k) (sym h);
+      ((spelled_number-spelled t 1 (m.1 ∙ ap (λ (k : ℕ). Some k) one)).0, sym c.1 ∙ one);
+  again = λ n h. ap (option_and_then (λ n. cond (eqb n 1) (Some n) None)) (spelled_number-decimal 1 (omega arith)) ∙ ap (λ (k : ℕ). Some k) (sym h);
 }
 
 -- ---- names of bits
@@ -214,9 +214,9 @@ bits_small width.Bits64 = omega arith
 pub widths : Spelling (λ w. operand_text (Number (bits_of w))) bits_named (λ w. Unit {0})
 widths = record {
   spelled = λ t w e.
-      let m = then_some (λ n. named swap_imms n) (number_of t) w e in
+      let m = then_some (λ n. named swap_imms n) (spelled_number t) w e in
       (number_of_is t m.0 (bits_of w) m.1 (swap_width m.0 w m.2), tt);
-  again = λ w h. ap (option_and_then (λ n. named swap_imms n)) (number_of-decimal (bits_of w) (bits_small w)) ∙ bits_again w;
+  again = λ w h. ap (option_and_then (λ n. named swap_imms n)) (spelled_number-decimal (bits_of w) (bits_small w)) ∙ bits_again w;
 }
 
 again_32 : (op : AluOp) → is_move_32 op ≡ true → named move_offsets_32 (alu_offset op) ≡ Some op
@@ -241,19 +241,19 @@ offset_small _ = omega arith
 pub moves_32 : Spelling (λ op. operand_text (Number (alu_offset op))) move_to_32 (λ op. is_move_32 op ≡ true)
 moves_32 = record {
   spelled = λ t op e.
-      let m = then_some (λ n. named move_offsets_32 n) (number_of t) op e in
+      let m = then_some (λ n. named move_offsets_32 n) (spelled_number t) op e in
       let r = move_32 m.0 op m.2 in
       (number_of_is t m.0 (alu_offset op) m.1 r.1, r.0);
-  again = λ op h. ap (option_and_then (λ n. named move_offsets_32 n)) (number_of-decimal (alu_offset op) (offset_small op)) ∙ again_32 op h;
+  again = λ op h. ap (option_and_then (λ n. named move_offsets_32 n)) (spelled_number-decimal (alu_offset op) (offset_small op)) ∙ again_32 op h;
 }
 
 pub moves_64 : Spelling (λ op. operand_text (Number (alu_offset op))) move_to_64 (λ op. is_move_64 op ≡ true)
 moves_64 = record {
   spelled = λ t op e.
-      let m = then_some (λ n. named move_offsets_64 n) (number_of t) op e in
+      let m = then_some (λ n. named move_offsets_64 n) (spelled_number t) op e in
       let r = move_64 m.0 op m.2 in
       (number_of_is t m.0 (alu_offset op) m.1 r.1, r.0);
-  again = λ op h. ap (option_and_then (λ n. named move_offsets_64 n)) (number_of-decimal (alu_offset op) (offset_small op)) ∙ again_64 op h;
+  again = λ op h. ap (option_and_then (λ n. named move_offsets_64 n)) (spelled_number-decimal (alu_offset op) (offset_small op)) ∙ again_64 op h;
 }
 
 -- ---- one, two and three operands

@@ -8,7 +8,7 @@ use Rattle.bpf_isa.specs.declared.operand.Width.{Width}
 use Rattle.bpf_isa.specs.declared.operation.AluOp.{AluOp}
 use Rattle.bpf_isa.specs.declared.operation.JumpOp.{JumpOp}
 use Rattle.bpf_model.specs.Form.{named, swap_imms, move_offsets_32, move_offsets_64}
-use Rattle.cp_text.specs.Number.{number_of}
+use Rattle.cp_text.specs.Number.{spelled_number}
 use Rattle.cp_text.specs.Signed.{signed_of}
 use Rattle.bpf_asm.specs.Mnemonic.{mnemonic_text}
 use Rattle.bpf_asm.specs.declared.mnemonic.Mnemonic.{Mnemonic}
@@ -45,7 +45,7 @@ at_most greatest (Some n) = if nat_le n greatest then Some n else None
 
 abbrev pub register_in : ℕ → List ℕ → Option ℕ
 register_in greatest [] = None
-register_in greatest (first ∷ rest) = if first == 114 then at_most greatest (number_of rest) else None
+register_in greatest (first ∷ rest) = if first == 114 then at_most greatest (spelled_number rest) else None
 
 -- a signed number from -limit to limit - 1
 abbrev pub below : ℕ → Option ℤ → Option ℤ
@@ -68,17 +68,17 @@ source_in (first ∷ rest) =
 
 -- the bits of a byte swap, and of a move that sign-extends
 abbrev pub bits_named : List ℕ → Option Width
-bits_named text = option_and_then (λ n. named swap_imms n) (number_of text)
+bits_named text = option_and_then (λ n. named swap_imms n) (spelled_number text)
 
 abbrev pub move_to_32 : List ℕ → Option AluOp
-move_to_32 text = option_and_then (λ n. named move_offsets_32 n) (number_of text)
+move_to_32 text = option_and_then (λ n. named move_offsets_32 n) (spelled_number text)
 
 abbrev pub move_to_64 : List ℕ → Option AluOp
-move_to_64 text = option_and_then (λ n. named move_offsets_64 n) (number_of text)
+move_to_64 text = option_and_then (λ n. named move_offsets_64 n) (spelled_number text)
 
 -- the number of the only helper
 abbrev pub helper_named : List ℕ → Option ℕ
-helper_named text = option_and_then (λ n. if n == 1 then Some n else None) (number_of text)
+helper_named text = option_and_then (λ n. if n == 1 then Some n else None) (spelled_number text)
 
 -- what is read of one part, two and three
 abbrev pub read_one : {A : Type 0} → (List ℕ → Option A) → List (List ℕ) → Option A
@@ -151,7 +151,7 @@ insn_with word.Extend64 parts =
 insn_with word.ToLittle parts = option_map (λ p. insn.ToLittle p.1 p.0) (dst_bits parts)
 insn_with word.ToBig parts = option_map (λ p. insn.ToBig p.1 p.0) (dst_bits parts)
 insn_with word.Swap parts = option_map (λ p. insn.Swap p.1 p.0) (dst_bits parts)
-insn_with word.LoadImm parts = option_map (λ p. insn.LoadImm p.0 p.1) (read_two (register_in 9) number_of parts)
+insn_with word.LoadImm parts = option_map (λ p. insn.LoadImm p.0 p.1) (read_two (register_in 9) spelled_number parts)
 insn_with (word.Load size) parts = option_map (λ p. insn.Load size p.0 p.1 p.2) (dst_src_offset parts)
 insn_with (word.LoadSigned size) parts = option_map (λ p. insn.LoadSigned size p.0 p.1 p.2) (dst_src_offset parts)
 insn_with (word.StoreImm size) parts =

@@ -2,7 +2,7 @@
 ghost use Rattle.std.specs.Prelude.{◌≡◌, ◌≤◌, Some, option_map};
 ghost use Rattle.bpf_asm.specs.Reading as spec;
 ghost use Rattle.bpf_asm.specs.Reading.{exit_of, helper_named, insn_in, insn_with, imm_in, move_to_32, move_to_64, offset_in, read_one, read_three, read_two, register_in, source_in};
-ghost use Rattle.cp_text.specs.Number.{number_of};
+ghost use Rattle.cp_text.specs.Number.{spelled_number};
 ghost use Rattle.cp_text.specs.Parts.{parts_between, parts_in};
 
 use crate::mnemonic::Mnemonic;

@@ -1,6 +1,6 @@
 //! The operands of a line, as they are read.
 ghost use Rattle.std.specs.Prelude.{◌≡◌, ◌^◌, ◌≤◌, ℕ, Some, option_and_then};
-ghost use Rattle.cp_text.specs.Number.{number_of};
+ghost use Rattle.cp_text.specs.Number.{spelled_number};
 ghost use Rattle.bpf_model.specs.Form.{named, swap_imms, move_offsets_32, move_offsets_64};
 ghost use Rattle.bpf_asm.specs.Reading as spec;
 ghost use Rattle.bpf_asm.specs.Reading.{at_most, below, helper_named, imm_in, offset_in, register_in, source_in};

@@ -5,8 +5,8 @@ use Rattle.bpf_bench.specs.declared.workload.Workload.{Workload}
 use Rattle.bpf_bench.specs.declared.workload.Workload.TheVariants.{Loop, Sum, Store, Near, Far}
 
 -- the workload that a word names, where it names one
-abbrev pub named_by : List ℕ → Option Workload
-named_by word =
+abbrev pub bpf_workload_named : List ℕ → Option Workload
+bpf_workload_named word =
     if bytes_eq word (codes "loop") then Some Loop
     else if bytes_eq word (codes "sum") then Some Sum
     else if bytes_eq word (codes "store") then Some Store

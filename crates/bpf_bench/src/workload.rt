@@ -1,7 +1,7 @@
 //! The workloads.
 ghost use Rattle.std.specs.Prelude.{◌≡◌, ◌-◌, ◌^◌, ◌≤◌, min};
 ghost use Rattle.bpf_bench.specs.Counts.{instructions_in_all};
-ghost use Rattle.bpf_bench.specs.Names.{named_by};
+ghost use Rattle.bpf_bench.specs.Names.{bpf_workload_named};
 
 /// What is executed. Each program does the same in every round, and there is at least one.
 #[derive(Clone, Copy, Debug, PartialEq, Eq)]
@@ -21,7 +21,7 @@ pub enum Workload {
 impl Workload {
     /// The workload of this name. `None` where it is the name of none.
     pub fn named(word: &str) -> Option<Workload>
-        ensures { result ≡ named_by word.now }
+        ensures { result ≡ bpf_workload_named word.now }
     {
         if word == "loop" {
             Some(Workload::Loop)

@@ -19,5 +19,5 @@ jump_rows f =
 -- accesses to memory: classes 1, 2 and 3
 abbrev pub access_rows : Fields → List Row
 access_rows f =
-    form.load f ∷ form.load_signed f ∷ form.store_imm f ∷ form.store_reg f ∷ form.atomic_plain f ∷ form.atomic_fetch f
+    form.load_plain f ∷ form.load_signed f ∷ form.store_imm f ∷ form.store_reg f ∷ form.atomic_plain f ∷ form.atomic_fetch f
     ∷ form.compare_exchange f ∷ []

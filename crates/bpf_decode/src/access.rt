@@ -92,7 +92,7 @@ fn fetch_op(imm: u32) -> Option<AtomicOp>
 
 /// The load of 64 bits of a unit and the next one, of which `rest` has the bytes.
 pub(crate) fn load_imm(f: &Fields, rest: &[u8]) -> Option<Insn>
-    ensures { result ≡ row_insn (form.load_imm f.now (form.fields_of rest.now)) }
+    ensures { result ≡ row_insn (form.load_imm f.now (form.unit_fields rest.now)) }
 {
     if !(f.opcode == 0x18 && f.src == 0 && f.offset == 0) {
         return None;
@@ -109,7 +109,7 @@ pub(crate) fn load_imm(f: &Fields, rest: &[u8]) -> Option<Insn>
 
 /// LDX MEM.
 fn load(f: &Fields) -> Option<Insn>
-    ensures { result ≡ row_insn (form.load f.now) }
+    ensures { result ≡ row_insn (form.load_plain f.now) }
 {
     if !(is_access(f, 1, 3) && f.imm == 0) {
         return None;

@@ -1,6 +1,6 @@
 //! The fields of a unit, read off its bytes, and the tests that forms share.
 ghost use Rattle.std.specs.Prelude.{◌≡◌, ◌≤◌, ◌↔◌, IsSome, IfSome, OnSome, length};
-ghost use Rattle.bpf_model.specs.Form.{fields_of, class_of, operand_of, code_of, width_of, mode_of, offset_of, imm_of};
+ghost use Rattle.bpf_model.specs.Form.{unit_fields, class_of, operand_of, operation_code, width_of, mode_of, offset_of, imm_of};
 
 use bpf_isa::Reg;
 use bpf_model::Fields;
@@ -9,7 +9,7 @@ use byteorder::{ByteOrder, LittleEndian};
 /// The fields of the unit that the bytes begin with, or `None` where fewer than 8 are left (RFC 9669,
 /// section 3.1).
 pub(crate) fn read_fields(bytes: &[u8]) -> Option<Fields>
-    ensures fields { result ≡ fields_of bytes.now }
+    ensures fields { result ≡ unit_fields bytes.now }
     ensures long { OnSome result (8 ≤ length bytes.now) }
 {
     if bytes.len() < 8 {
@@ -40,7 +40,7 @@ pub(crate) fn operand(f: &Fields) -> u8
 
 /// The code of an arithmetic operation or a jump.
 pub(crate) fn code(f: &Fields) -> u8
-    ensures { result ≡ code_of f.now }
+    ensures { result ≡ operation_code f.now }
 {
     f.opcode / 16
 }

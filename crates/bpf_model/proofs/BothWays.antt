@@ -18,7 +18,7 @@ use Rattle.bpf_isa.specs.declared.operation.AluOp.TheVariants as alu
 use Rattle.bpf_isa.specs.declared.operation.AtomicOp.{AtomicOp}
 use Rattle.bpf_isa.specs.declared.operation.AtomicOp.TheVariants as atomic
 use Rattle.bpf_model.specs.declared.fields.Fields.{Fields}
-use Rattle.bpf_model.specs.Form.{fields_of, rows, row_insn, load_imm, is_writable, insn_of, first_form, form}
+use Rattle.bpf_model.specs.Form.{unit_fields, rows, row_insn, load_imm, is_writable, insn_of, first_form, form}
 use Rattle.bpf_model.specs.Walk.{units_of}
 use Rattle.bpf_model.specs.Encoding.{IsAllowed, IsEncodedAt, encoding, unit, alu_offset, alu_opcode, jump_opcode, access_opcode, atomic_code, offset_bits, imm_bits}
 use Rattle.bpf_model.proofs.Tables.{InRange, Reads, ReadsWide, unit_of, read_as, row-some, EachRow, first_fit-some}
@@ -39,7 +39,7 @@ record Back (bytes : List ℕ) (f : Fields) : Type 0 where
   pub in_range : InRange f
   pub bytes_back : unit_of f ++ drop 8 bytes ≡ bytes
 
-fields-back : (bytes : List ℕ) (f : Fields) → ((k : ℕ) → slice_index bytes k < 256) → fields_of bytes ≡ Some f → Back bytes f
+fields-back : (bytes : List ℕ) (f : Fields) → ((k : ℕ) → slice_index bytes k < 256) → unit_fields bytes ≡ Some f → Back bytes f
 fields-back (a ∷ b ∷ c ∷ d ∷ e ∷ g ∷ h ∷ j ∷ rest) f small p =
     let a' : a < 256 = small 0 in
     let b' : b < 256 = small 1 in
@@ -60,8 +60,8 @@ fields-back (a ∷ b ∷ c ∷ d ∷ e ∷ g ∷ h ∷ j ∷ rest) f small p =
 fields-back _ f small p = cc
 
 -- the fields of a unit are those that it was made of
-fields_of-unit : (o d s x m : ℕ) (rest : List ℕ) → d < 16 → x < 2 ^ 16 → m < 2 ^ 32 → fields_of (unit o d s x m ++ rest) ≡ Some (read_as o d s x m)
-fields_of-unit o d s x m rest p q r =
+unit_fields-unit : (o d s x m : ℕ) (rest : List ℕ) → d < 16 → x < 2 ^ 16 → m < 2 ^ 32 → unit_fields (unit o d s x m ++ rest) ≡ Some (read_as o d s x m)
+unit_fields-unit o d s x m rest p q r =
     let dst : (16 * s + d) % 16 ≡ d = omega arith in
     let src : (16 * s + d) / 16 ≡ s = omega arith in
     let offset : from_le_bytes w16 (to_le_bytes w16 x) ≡ x = omega arith in
@@ -70,9 +70,9 @@ fields_of-unit o d s x m rest p q r =
 
 -- so a unit with the next one has the form of its fields
 first_form-unit : (o d s x m : ℕ) (rest : List ℕ) → d < 16 → x < 2 ^ 16 → m < 2 ^ 32
-    → first_form (unit o d s x m ++ rest) ≡ insn_of (read_as o d s x m) (fields_of rest)
+    → first_form (unit o d s x m ++ rest) ≡ insn_of (read_as o d s x m) (unit_fields rest)
 first_form-unit o d s x m rest p q r =
-    ap (λ (f : Option Fields). option_and_then (λ g. insn_of g (fields_of rest)) f) (fields_of-unit o d s x m rest p q r)
+    ap (λ (f : Option Fields). option_and_then (λ g. insn_of g (unit_fields rest)) f) (unit_fields-unit o d s x m rest p q r)
 
 -- an offset and an immediate fit their bits
 offset-below : (z : ℤ) → FitsSigned w16 z → offset_bits z < 2 ^ 16
@@ -103,87 +103,87 @@ atomic_code-below _ = omega arith
 pub first_form-encoding : (i : Insn) (rest : List ℕ) → IsAllowed i → first_form (encoding i ++ rest) ≡ Some i
 first_form-encoding (insn.AluImm op wide dst imm) rest a =
     first_form-unit (alu_opcode op 0 wide) dst 0 0 (imm_bits imm) rest (omega arith) (omega arith) (imm-below imm a.2)
-    ∙ decoded.alu_imm op wide dst imm (fields_of rest) a.0 (le-leb dst 9 a.1) a.2
+    ∙ decoded.alu_imm op wide dst imm (unit_fields rest) a.0 (le-leb dst 9 a.1) a.2
 first_form-encoding (insn.AluReg op wide dst src) rest a =
     first_form-unit (alu_opcode op 1 wide) dst src 0 0 rest (omega arith) (omega arith) (omega arith)
-    ∙ decoded.alu_reg op wide dst src (fields_of rest) a.0 (le-leb dst 9 a.1) (le-leb src 10 a.2)
+    ∙ decoded.alu_reg op wide dst src (unit_fields rest) a.0 (le-leb dst 9 a.1) (le-leb src 10 a.2)
 first_form-encoding (insn.DivImm op wide dst imm) rest a =
     first_form-unit (alu_opcode op 0 wide) dst 0 (alu_offset op) (imm_bits imm) rest (omega arith) (alu_offset-below op) (imm-below imm a.2)
-    ∙ decoded.div_imm op wide dst imm (fields_of rest) a.0 (le-leb dst 9 a.1) a.2
+    ∙ decoded.div_imm op wide dst imm (unit_fields rest) a.0 (le-leb dst 9 a.1) a.2
 first_form-encoding (insn.DivReg op wide dst src) rest a =
     first_form-unit (alu_opcode op 1 wide) dst src (alu_offset op) 0 rest (omega arith) (alu_offset-below op) (omega arith)
-    ∙ decoded.div_reg op wide dst src (fields_of rest) a.0 (le-leb dst 9 a.1) (le-leb src 10 a.2)
+    ∙ decoded.div_reg op wide dst src (unit_fields rest) a.0 (le-leb dst 9 a.1) (le-leb src 10 a.2)
 first_form-encoding (insn.Neg wide dst) rest a =
     first_form-unit (alu_opcode alu.Neg 0 wide) dst 0 0 0 rest (omega arith) (omega arith) (omega arith)
-    ∙ decoded.neg wide dst (fields_of rest) (le-leb dst 9 a)
+    ∙ decoded.neg wide dst (unit_fields rest) (le-leb dst 9 a)
 first_form-encoding (insn.MovImm wide dst imm) rest a =
     first_form-unit (alu_opcode alu.Mov 0 wide) dst 0 0 (imm_bits imm) rest (omega arith) (omega arith) (imm-below imm a.1)
-    ∙ decoded.mov_imm wide dst imm (fields_of rest) (le-leb dst 9 a.0) a.1
+    ∙ decoded.mov_imm wide dst imm (unit_fields rest) (le-leb dst 9 a.0) a.1
 first_form-encoding (insn.MovReg wide dst src) rest a =
     first_form-unit (alu_opcode alu.Mov 1 wide) dst src 0 0 rest (omega arith) (omega arith) (omega arith)
-    ∙ decoded.mov_reg wide dst src (fields_of rest) (le-leb dst 9 a.0) (le-leb src 10 a.1)
+    ∙ decoded.mov_reg wide dst src (unit_fields rest) (le-leb dst 9 a.0) (le-leb src 10 a.1)
 first_form-encoding (insn.Movsx32 op dst src) rest a =
     first_form-unit 0xbc dst src (alu_offset op) 0 rest (omega arith) (alu_offset-below op) (omega arith)
-    ∙ decoded.movsx_32 op dst src (fields_of rest) a.0 (le-leb dst 9 a.1) (le-leb src 10 a.2)
+    ∙ decoded.movsx_32 op dst src (unit_fields rest) a.0 (le-leb dst 9 a.1) (le-leb src 10 a.2)
 first_form-encoding (insn.Movsx64 op dst src) rest a =
     first_form-unit 0xbf dst src (alu_offset op) 0 rest (omega arith) (alu_offset-below op) (omega arith)
-    ∙ decoded.movsx_64 op dst src (fields_of rest) a.0 (le-leb dst 9 a.1) (le-leb src 10 a.2)
+    ∙ decoded.movsx_64 op dst src (unit_fields rest) a.0 (le-leb dst 9 a.1) (le-leb src 10 a.2)
 first_form-encoding (insn.ToLittle bits dst) rest a =
     first_form-unit 0xd4 dst 0 0 (bits_of bits) rest (omega arith) (omega arith) (bits_of-below bits)
-    ∙ decoded.to_little bits dst (fields_of rest) (le-leb dst 9 a)
+    ∙ decoded.to_little bits dst (unit_fields rest) (le-leb dst 9 a)
 first_form-encoding (insn.ToBig bits dst) rest a =
     first_form-unit 0xdc dst 0 0 (bits_of bits) rest (omega arith) (omega arith) (bits_of-below bits)
-    ∙ decoded.to_big bits dst (fields_of rest) (le-leb dst 9 a)
+    ∙ decoded.to_big bits dst (unit_fields rest) (le-leb dst 9 a)
 first_form-encoding (insn.Swap bits dst) rest a =
     first_form-unit 0xd7 dst 0 0 (bits_of bits) rest (omega arith) (omega arith) (bits_of-below bits)
-    ∙ decoded.swap bits dst (fields_of rest) (le-leb dst 9 a)
+    ∙ decoded.swap bits dst (unit_fields rest) (le-leb dst 9 a)
 first_form-encoding (insn.Jump offset) rest a =
     first_form-unit 0x05 0 0 (offset_bits offset) 0 rest (omega arith) (offset-below offset a) (omega arith)
-    ∙ decoded.ja offset (fields_of rest) a
+    ∙ decoded.ja offset (unit_fields rest) a
 first_form-encoding (insn.JumpLong imm) rest a =
     first_form-unit 0x06 0 0 0 (imm_bits imm) rest (omega arith) (omega arith) (imm-below imm a)
-    ∙ decoded.ja_long imm (fields_of rest) a
+    ∙ decoded.ja_long imm (unit_fields rest) a
 first_form-encoding (insn.BranchImm op wide dst offset imm) rest a =
     first_form-unit (jump_opcode op 0 wide) dst 0 (offset_bits offset) (imm_bits imm) rest (omega arith) (offset-below offset a.1) (imm-below imm a.2)
-    ∙ decoded.branch_imm op wide dst offset imm (fields_of rest) (le-leb dst 10 a.0) a.1 a.2
+    ∙ decoded.branch_imm op wide dst offset imm (unit_fields rest) (le-leb dst 10 a.0) a.1 a.2
 first_form-encoding (insn.BranchReg op wide dst src offset) rest a =
     first_form-unit (jump_opcode op 1 wide) dst src (offset_bits offset) 0 rest (omega arith) (offset-below offset a.2) (omega arith)
-    ∙ decoded.branch_reg op wide dst src offset (fields_of rest) (le-leb dst 10 a.0) (le-leb src 10 a.1) a.2
+    ∙ decoded.branch_reg op wide dst src offset (unit_fields rest) (le-leb dst 10 a.0) (le-leb src 10 a.1) a.2
 first_form-encoding insn.CallHelper rest a =
     first_form-unit 0x85 0 0 0 1 rest (omega arith) (omega arith) (omega arith)
-    ∙ decoded.call_helper (fields_of rest)
+    ∙ decoded.call_helper (unit_fields rest)
 first_form-encoding (insn.CallLocal imm) rest a =
     first_form-unit 0x85 0 1 0 (imm_bits imm) rest (omega arith) (omega arith) (imm-below imm a)
-    ∙ decoded.call_local imm (fields_of rest) a
+    ∙ decoded.call_local imm (unit_fields rest) a
 first_form-encoding insn.Exit rest a =
     first_form-unit 0x95 0 0 0 0 rest (omega arith) (omega arith) (omega arith)
-    ∙ decoded.exit (fields_of rest)
+    ∙ decoded.exit (unit_fields rest)
 first_form-encoding (insn.LoadImm dst value) rest a =
-    let second = fields_of-unit 0 0 0 0 (value / 2 ^ 32) rest (omega arith) (omega arith) (omega arith) in
+    let second = unit_fields-unit 0 0 0 0 (value / 2 ^ 32) rest (omega arith) (omega arith) (omega arith) in
     first_form-unit 0x18 dst 0 0 (value % 2 ^ 32) (unit 0 0 0 0 (value / 2 ^ 32) ++ rest) (omega arith) (omega arith) (omega arith)
     ∙ ap (λ (n : Option Fields). insn_of (read_as 0x18 dst 0 0 (value % 2 ^ 32)) n) second
     ∙ decoded.load_imm dst value (le-leb dst 9 a.0)
 first_form-encoding (insn.Load s dst src offset) rest a =
     first_form-unit (access_opcode 3 s 1) dst src (offset_bits offset) 0 rest (omega arith) (offset-below offset a.2) (omega arith)
-    ∙ decoded.load s dst src offset (fields_of rest) (le-leb dst 9 a.0) (le-leb src 10 a.1) a.2
+    ∙ decoded.load s dst src offset (unit_fields rest) (le-leb dst 9 a.0) (le-leb src 10 a.1) a.2
 first_form-encoding (insn.LoadSigned s dst src offset) rest a =
     first_form-unit (access_opcode 4 s 1) dst src (offset_bits offset) 0 rest (omega arith) (offset-below offset a.3) (omega arith)
-    ∙ decoded.load_signed s dst src offset (fields_of rest) a.0 (le-leb dst 9 a.1) (le-leb src 10 a.2) a.3
+    ∙ decoded.load_signed s dst src offset (unit_fields rest) a.0 (le-leb dst 9 a.1) (le-leb src 10 a.2) a.3
 first_form-encoding (insn.StoreImm s dst offset imm) rest a =
     first_form-unit (access_opcode 3 s 2) dst 0 (offset_bits offset) (imm_bits imm) rest (omega arith) (offset-below offset a.1) (imm-below imm a.2)
-    ∙ decoded.store_imm s dst offset imm (fields_of rest) (le-leb dst 10 a.0) a.1 a.2
+    ∙ decoded.store_imm s dst offset imm (unit_fields rest) (le-leb dst 10 a.0) a.1 a.2
 first_form-encoding (insn.StoreReg s dst src offset) rest a =
     first_form-unit (access_opcode 3 s 3) dst src (offset_bits offset) 0 rest (omega arith) (offset-below offset a.2) (omega arith)
-    ∙ decoded.store_reg s dst src offset (fields_of rest) (le-leb dst 10 a.0) (le-leb src 10 a.1) a.2
+    ∙ decoded.store_reg s dst src offset (unit_fields rest) (le-leb dst 10 a.0) (le-leb src 10 a.1) a.2
 first_form-encoding (insn.Atomic op s dst src offset) rest a =
     first_form-unit (access_opcode 6 s 3) dst src (offset_bits offset) (atomic_code op) rest (omega arith) (offset-below offset a.4) (let b = atomic_code-below op in omega arith)
-    ∙ decoded.atomic_plain op s dst src offset (fields_of rest) a.0 a.1 (le-leb dst 10 a.2) (le-leb src 10 a.3) a.4
+    ∙ decoded.atomic_plain op s dst src offset (unit_fields rest) a.0 a.1 (le-leb dst 10 a.2) (le-leb src 10 a.3) a.4
 first_form-encoding (insn.AtomicFetch op s dst src offset) rest a =
     first_form-unit (access_opcode 6 s 3) dst src (offset_bits offset) (atomic_code op + 1) rest (omega arith) (offset-below offset a.4) (atomic_code-below op)
-    ∙ decoded.atomic_fetch op s dst src offset (fields_of rest) a.0 a.1 (le-leb dst 10 a.2) (le-leb src 10 (omega arith)) (le-leb src 9 a.3) a.4
+    ∙ decoded.atomic_fetch op s dst src offset (unit_fields rest) a.0 a.1 (le-leb dst 10 a.2) (le-leb src 10 (omega arith)) (le-leb src 9 a.3) a.4
 first_form-encoding (insn.CompareExchange s dst src offset) rest a =
     first_form-unit (access_opcode 6 s 3) dst src (offset_bits offset) 0xf1 rest (omega arith) (offset-below offset a.3) (omega arith)
-    ∙ decoded.compare_exchange s (is_writable src) dst src offset (fields_of rest) a.0 (le-leb dst 10 a.1) (le-leb src 10 a.2) refl a.3
+    ∙ decoded.compare_exchange s (is_writable src) dst src offset (unit_fields rest) a.0 (le-leb dst 10 a.1) (le-leb src 10 a.2) refl a.3
 
 -- what was read of a unit and the next one: one unit, or both
 abbrev ReadsForm : Fields → Option Fields → Insn → Type 0
@@ -290,16 +290,16 @@ small_drop bytes n small k = rw (get_or-drop n bytes k 0) (small (n + k))
 -- bytes that have a form begin with the encoding of an allowed instruction
 pub first_form-some : (bytes : List ℕ) (i : Insn) → ((k : ℕ) → slice_index bytes k < 256) → first_form bytes ≡ Some i
     → IsAllowed i × ((rest : List ℕ) × (bytes ≡ encoding i ++ rest))
-first_form-some bytes i small h = by_fields (fields_of bytes) refl h
+first_form-some bytes i small h = by_fields (unit_fields bytes) refl h
   where
-    by_fields : (o : Option Fields) → fields_of bytes ≡ o → option_and_then (λ f. insn_of f (fields_of (drop 8 bytes))) o ≡ Some i
+    by_fields : (o : Option Fields) → unit_fields bytes ≡ o → option_and_then (λ f. insn_of f (unit_fields (drop 8 bytes))) o ≡ Some i
         → IsAllowed i × ((rest : List ℕ) × (bytes ≡ encoding i ++ rest))
     by_fields None e q = cc
     by_fields (Some f) e q =
         let b = fields-back bytes f small e in
         let later : (k : ℕ) → slice_index (drop 8 bytes) k < 256 = λ k. small_drop bytes 8 small k in
-        let next : (n : Fields) → fields_of (drop 8 bytes) ≡ Some n → InRange n = λ n s. (fields-back (drop 8 bytes) n later s).in_range in
-        elim (insn_of-form f (fields_of (drop 8 bytes)) b.in_range next i q) [
+        let next : (n : Fields) → unit_fields (drop 8 bytes) ≡ Some n → InRange n = λ n s. (fields-back (drop 8 bytes) n later s).in_range in
+        elim (insn_of-form f (unit_fields (drop 8 bytes)) b.in_range next i q) [
           | inl w ↦ (w.allowed, (drop 8 bytes, sym (ap (λ (x : List ℕ). x ++ drop 8 bytes) w.bytes ∙ b.bytes_back)))
           | inr w ↦
               let second = fields-back (drop 8 bytes) w.0 later w.1 in (

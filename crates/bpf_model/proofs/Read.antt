@@ -10,7 +10,7 @@ use Rattle.bpf_isa.specs.declared.insn.Insn.TheVariants as insn
 use Rattle.bpf_isa.specs.declared.operation.AluOp.TheVariants as alu
 use Rattle.bpf_model.specs.declared.fields.Fields.{Fields}
 use Rattle.bpf_model.specs.Form as form
-use Rattle.bpf_model.specs.Form.{row_insn, named, offset_of, imm_of, class_of, mode_of, width_of, code_of, is_alu_wide, is_jump_wide}
+use Rattle.bpf_model.specs.Form.{row_insn, named, offset_of, imm_of, class_of, mode_of, width_of, operation_code, is_alu_wide, is_jump_wide}
 use Rattle.bpf_model.specs.Encoding.{unit, alu_opcode, jump_opcode, access_opcode, offset_bits, imm_bits}
 use Rattle.bpf_model.proofs.Tables as table
 use Rattle.bpf_model.proofs.Tables.{InRange, Reads, ReadsWide, row-some, option_map-some, option_and_then-some, unit_of, unit-same}
@@ -32,8 +32,8 @@ pub alu_imm : (f : Fields) → InRange f → (i : Insn) → row_insn (form.alu_i
 alu_imm f r i h =
     let w = row-some (form.alu_imm f) i h in
     let t = w.0 in
-    let m = option_map-some (λ op. insn.AluImm op (is_alu_wide f) f.dst (imm_of f)) (named form.binary_codes (code_of f)) i w.1 in
-    let b = table.binary (code_of f) m.0 m.1 in
+    let m = option_map-some (λ op. insn.AluImm op (is_alu_wide f) f.dst (imm_of f)) (named form.binary_codes (operation_code f)) i w.1 in
+    let b = table.binary (operation_code f) m.0 m.1 in
     let dst : f.dst ≤ 9 = grind (arith, nat_tests) in
     let src : 0 ≡ f.src = grind (arith, nat_tests) in
     let offset : 0 ≡ f.offset = grind (arith, nat_tests) in
@@ -44,8 +44,8 @@ pub alu_reg : (f : Fields) → InRange f → (i : Insn) → row_insn (form.alu_r
 alu_reg f r i h =
     let w = row-some (form.alu_reg f) i h in
     let t = w.0 in
-    let m = option_map-some (λ op. insn.AluReg op (is_alu_wide f) f.dst f.src) (named form.binary_codes (code_of f)) i w.1 in
-    let b = table.binary (code_of f) m.0 m.1 in
+    let m = option_map-some (λ op. insn.AluReg op (is_alu_wide f) f.dst f.src) (named form.binary_codes (operation_code f)) i w.1 in
+    let b = table.binary (operation_code f) m.0 m.1 in
     let dst : f.dst ≤ 9 = grind (arith, nat_tests) in
     let src : f.src ≤ 10 = grind (arith, nat_tests) in
     let offset : 0 ≡ f.offset = grind (arith, nat_tests) in
@@ -197,8 +197,8 @@ pub branch_imm : (f : Fields) → InRange f → (i : Insn) → row_insn (form.br
 branch_imm f r i h =
     let w = row-some (form.branch_imm f) i h in
     let t = w.0 in
-    let m = option_map-some (λ op. insn.BranchImm op (is_jump_wide f) f.dst (offset_of f) (imm_of f)) (named form.jump_codes (code_of f)) i w.1 in
-    let b = table.jump_named (code_of f) m.0 m.1 in
+    let m = option_map-some (λ op. insn.BranchImm op (is_jump_wide f) f.dst (offset_of f) (imm_of f)) (named form.jump_codes (operation_code f)) i w.1 in
+    let b = table.jump_named (operation_code f) m.0 m.1 in
     let dst : f.dst ≤ 10 = grind (arith, nat_tests) in
     let src : 0 ≡ f.src = grind (arith, nat_tests) in
     let opcode : jump_opcode m.0 0 (is_jump_wide f) ≡ f.opcode = grind (arith, nat_tests) in
@@ -208,8 +208,8 @@ pub branch_reg : (f : Fields) → InRange f → (i : Insn) → row_insn (form.br
 branch_reg f r i h =
     let w = row-some (form.branch_reg f) i h in
     let t = w.0 in
-    let m = option_map-some (λ op. insn.BranchReg op (is_jump_wide f) f.dst f.src (offset_of f)) (named form.jump_codes (code_of f)) i w.1 in
-    let b = table.jump_named (code_of f) m.0 m.1 in
+    let m = option_map-some (λ op. insn.BranchReg op (is_jump_wide f) f.dst f.src (offset_of f)) (named form.jump_codes (operation_code f)) i w.1 in
+    let b = table.jump_named (operation_code f) m.0 m.1 in
     let dst : f.dst ≤ 10 = grind (arith, nat_tests) in
     let src : f.src ≤ 10 = grind (arith, nat_tests) in
     let imm : 0 ≡ f.imm = grind (arith, nat_tests) in
@@ -251,9 +251,9 @@ exit f r i h =
     let opcode : 0x95 ≡ f.opcode = grind (arith, nat_tests) in
     subst (Reads f) e (record { allowed = tt; bytes = unit-same f _ _ _ _ _ opcode dst src offset imm })
 
-pub load : (f : Fields) → InRange f → (i : Insn) → row_insn (form.load f) ≡ Some i → Reads f i
+pub load : (f : Fields) → InRange f → (i : Insn) → row_insn (form.load_plain f) ≡ Some i → Reads f i
 load f r i h =
-    let w = row-some (form.load f) i h in
+    let w = row-some (form.load_plain f) i h in
     let t = w.0 in
     let m = option_map-some (λ s. insn.Load s f.dst f.src (offset_of f)) (named form.access_widths (width_of f)) i w.1 in
     let b = table.access_width (width_of f) m.0 m.1 in

@@ -12,7 +12,7 @@ use Rattle.bpf_isa.specs.declared.operation.JumpOp.{JumpOp}
 use Rattle.bpf_isa.specs.declared.operation.AtomicOp.{AtomicOp}
 use Rattle.bpf_model.specs.declared.fields.Fields.{Fields}
 use Rattle.bpf_model.specs.Form as form
-use Rattle.bpf_model.specs.Form.{Row, row_insn, first_fit, named, code_of, division_of}
+use Rattle.bpf_model.specs.Form.{Row, row_insn, first_fit, named, operation_code, division_of}
 use Rattle.bpf_model.specs.Encoding.{IsAllowed, encoding, unit, is_binary, is_division, is_move_32, is_move_64, is_narrow, is_atomic_size, is_plain, is_fetch, alu_code, alu_offset, jump_code, size_code, atomic_code}
 
 -- fields that 8 bytes may hold
@@ -103,17 +103,17 @@ signed_division : (n : ℕ) (op : AluOp) → named form.signed_division_codes n 
 signed_division n op h = named-some (λ m o. (is_division o ≡ true) × (alu_code o ≡ m) × (alu_offset o ≡ 1)) form.signed_division_codes n op
     ((refl, refl, refl), ((refl, refl, refl), tt)) h
 
-pub division : (f : Fields) (op : AluOp) → division_of f ≡ Some op → (is_division op ≡ true) × (alu_code op ≡ code_of f) × (alu_offset op ≡ f.offset)
+pub division : (f : Fields) (op : AluOp) → division_of f ≡ Some op → (is_division op ≡ true) × (alu_code op ≡ operation_code f) × (alu_offset op ≡ f.offset)
 division f op h = by_offset (f.offset == 0) (f.offset == 1) refl refl h
   where
     by_offset : (a b : Bool) → (f.offset == 0) ≡ a → (f.offset == 1) ≡ b
-        → (if a then named form.unsigned_division_codes (code_of f) else if b then named form.signed_division_codes (code_of f) else None) ≡ Some op
-        → (is_division op ≡ true) × (alu_code op ≡ code_of f) × (alu_offset op ≡ f.offset)
+        → (if a then named form.unsigned_division_codes (operation_code f) else if b then named form.signed_division_codes (operation_code f) else None) ≡ Some op
+        → (is_division op ≡ true) × (alu_code op ≡ operation_code f) × (alu_offset op ≡ f.offset)
     by_offset true b p q h =
-        let d = unsigned_division (code_of f) op h in
+        let d = unsigned_division (operation_code f) op h in
         let zero : f.offset ≡ 0 = eqb-true f.offset 0 p in (d.0, d.1, cc)
     by_offset false true p q h =
-        let d = signed_division (code_of f) op h in
+        let d = signed_division (operation_code f) op h in
         let one : f.offset ≡ 1 = eqb-true f.offset 1 q in (d.0, d.1, cc)
     by_offset false false p q h = cc
 

@@ -7,7 +7,7 @@ use Rattle.cp_base.specs.declared.lists.Access.TheVariants.{ReadOnly}
 use Rattle.cp_base.specs.declared.lists.MemRange.{MemRange}
 use Rattle.bpf_model.specs.Address.{stack_len}
 use Rattle.bpf_model.specs.Machine.{Machine, entry_machine, frame_pointer}
-use Rattle.bpf_model.specs.Memory.{Memory, HoldsBytes, bytes_from, range_at, lengths_of, windows_of, read_write_of, Covers, CoversForWriting, AreApart}
+use Rattle.bpf_model.specs.Memory.{Memory, HoldsBytes, bytes_from, range_at, lengths_of, windows_of, read_write_of, CoversByte, CoversForWriting, AreApart}
 use Rattle.bpf_model.specs.Outcome.{outcome, outcome_from}
 use Rattle.bpf_model.specs.Step.{Program}
 use Rattle.bpf_model.proofs.Alongside.{range_at-len, Alike, Agree, OutcomeAlong, run-along}
@@ -27,18 +27,18 @@ pub holds-bytes : (program : Program) (r : List MemRange) (memory : Memory) (p1 
 holds-bytes program r memory p1 p2 budget held =
     (run-along program r r (alike-self r) budget (entry_machine r memory p1 p2) memory memory (λ i k less. refl)).kept.bytes held
 
-local : (program : Program) (r : List MemRange) (a b : Memory) (p1 p2 budget : ℕ) → ((ns offset : ℕ) → Covers r ns offset → a ns offset ≡ b ns offset)
+local : (program : Program) (r : List MemRange) (a b : Memory) (p1 p2 budget : ℕ) → ((ns offset : ℕ) → CoversByte r ns offset → a ns offset ≡ b ns offset)
     → OutcomeAlong r r a b (outcome program r a p1 p2 budget) (outcome program r b p1 p2 budget)
 local program r a b p1 p2 budget same =
     run-along program r r (alike-self r) budget (entry_machine r a p1 p2) a b
     (λ i k less. same (range_at r i).ns ((range_at r i).at + k) (i, (k, less, refl, refl)))
 
-pub local-ending : (program : Program) (r : List MemRange) (a b : Memory) (p1 p2 budget : ℕ) → ((ns offset : ℕ) → Covers r ns offset → a ns offset ≡ b ns offset)
+pub local-ending : (program : Program) (r : List MemRange) (a b : Memory) (p1 p2 budget : ℕ) → ((ns offset : ℕ) → CoversByte r ns offset → a ns offset ≡ b ns offset)
     → (outcome program r a p1 p2 budget).ending ≡ (outcome program r b p1 p2 budget).ending
 local-ending program r a b p1 p2 budget same = (local program r a b p1 p2 budget same).ending
 
-pub local-memory : (program : Program) (r : List MemRange) (a b : Memory) (p1 p2 budget : ℕ) → ((ns offset : ℕ) → Covers r ns offset → a ns offset ≡ b ns offset)
-    → (ns offset : ℕ) → Covers r ns offset → (outcome program r a p1 p2 budget).memory ns offset ≡ (outcome program r b p1 p2 budget).memory ns offset
+pub local-memory : (program : Program) (r : List MemRange) (a b : Memory) (p1 p2 budget : ℕ) → ((ns offset : ℕ) → CoversByte r ns offset → a ns offset ≡ b ns offset)
+    → (ns offset : ℕ) → CoversByte r ns offset → (outcome program r a p1 p2 budget).memory ns offset ≡ (outcome program r b p1 p2 budget).memory ns offset
 local-memory program r a b p1 p2 budget same ns offset (i, (k, less, here, there)) =
     let agree : (outcome program r a p1 p2 budget).memory (range_at r i).ns ((range_at r i).at + k)
     ≡ (outcome program r b p1 p2 budget).memory (range_at r i).ns ((range_at r i).at + k) =

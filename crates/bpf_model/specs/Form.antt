@@ -18,15 +18,15 @@ use Rattle.bpf_isa.specs.declared.operation.AtomicOp.TheVariants as atomic
 use Rattle.bpf_model.specs.declared.fields.Fields.{Fields}
 
 -- the fields of the unit that the bytes begin with; none where fewer than 8 are left (RFC 9669, section 3.1)
-abbrev pub fields_of : List ℕ → Option Fields
-fields_of (opcode ∷ registers ∷ o0 ∷ o1 ∷ i0 ∷ i1 ∷ i2 ∷ i3 ∷ rest) = Some (record {
+abbrev pub unit_fields : List ℕ → Option Fields
+unit_fields (opcode ∷ registers ∷ o0 ∷ o1 ∷ i0 ∷ i1 ∷ i2 ∷ i3 ∷ rest) = Some (record {
   opcode = opcode;
   dst = registers % 16;
   src = registers / 16;
   offset = from_le_bytes w16 (o0 ∷ o1 ∷ []);
   imm = from_le_bytes w32 (i0 ∷ i1 ∷ i2 ∷ i3 ∷ []);
 })
-fields_of _ = None
+unit_fields _ = None
 
 -- The parts of an opcode (RFC 9669, sections 3.2, 4 and 5).
 
@@ -39,8 +39,8 @@ abbrev pub operand_of : Fields → ℕ
 operand_of f = f.opcode / 8 % 2
 
 -- the code of an arithmetic operation or a jump
-abbrev pub code_of : Fields → ℕ
-code_of f = f.opcode / 16
+abbrev pub operation_code : Fields → ℕ
+operation_code f = f.opcode / 16
 
 -- the width of an access to memory
 abbrev pub width_of : Fields → ℕ
@@ -110,8 +110,8 @@ signed_division_codes = (0x3, alu.Sdiv) ∷ (0x9, alu.Smod) ∷ []
 
 abbrev pub division_of : Fields → Option AluOp
 division_of f =
-    if f.offset == 0 then named unsigned_division_codes (code_of f)
-    else if f.offset == 1 then named signed_division_codes (code_of f)
+    if f.offset == 0 then named unsigned_division_codes (operation_code f)
+    else if f.offset == 1 then named signed_division_codes (operation_code f)
     else None
 
 -- moves that sign-extend to 32 and to 64 bits, by the offset
@@ -131,7 +131,7 @@ jump_codes = (0x1, jump.Jeq) ∷ (0x2, jump.Jgt) ∷ (0x3, jump.Jge) ∷ (0x4, j
     ∷ (0x6, jump.Jsgt) ∷ (0x7, jump.Jsge) ∷ (0xa, jump.Jlt) ∷ (0xb, jump.Jle) ∷ (0xc, jump.Jslt)
     ∷ (0xd, jump.Jsle) ∷ []
 
--- widths of an access to memory, of a load that sign-extends, and of an atomic operation (RFC 9669, section 5)
+-- widths of an access to memory, of a load_plain that sign-extends, and of an atomic operation (RFC 9669, section 5)
 abbrev pub access_widths : List (ℕ × Size)
 access_widths = (0, size.W) ∷ (1, size.H) ∷ (2, size.B) ∷ (3, size.D) ∷ []
 
@@ -165,12 +165,12 @@ row_insn row = if row.fits then row.gives else None
 -- ADD, SUB, MUL, OR, AND, LSH, RSH, XOR, ARSH with an immediate
 abbrev pub alu_imm : Fields → Row
 alu_imm f = when (is_alu_imm f && is_writable f.dst && f.src == 0 && f.offset == 0)
-    (option_map (λ op. insn.AluImm op (is_alu_wide f) f.dst (imm_of f)) (named binary_codes (code_of f)))
+    (option_map (λ op. insn.AluImm op (is_alu_wide f) f.dst (imm_of f)) (named binary_codes (operation_code f)))
 
 -- the same with a register
 abbrev pub alu_reg : Fields → Row
 alu_reg f = when (is_alu_reg f && is_writable f.dst && is_register f.src && f.offset == 0 && f.imm == 0)
-    (option_map (λ op. insn.AluReg op (is_alu_wide f) f.dst f.src) (named binary_codes (code_of f)))
+    (option_map (λ op. insn.AluReg op (is_alu_wide f) f.dst f.src) (named binary_codes (operation_code f)))
 
 -- DIV, MOD, SDIV, SMOD with an immediate
 abbrev pub div_imm : Fields → Row
@@ -233,12 +233,12 @@ ja_long f = when (f.opcode == 0x06 && f.dst == 0 && f.src == 0 && f.offset == 0)
 -- a conditional jump on an immediate
 abbrev pub branch_imm : Fields → Row
 branch_imm f = when (is_jump_imm f && is_register f.dst && f.src == 0)
-    (option_map (λ op. insn.BranchImm op (is_jump_wide f) f.dst (offset_of f) (imm_of f)) (named jump_codes (code_of f)))
+    (option_map (λ op. insn.BranchImm op (is_jump_wide f) f.dst (offset_of f) (imm_of f)) (named jump_codes (operation_code f)))
 
 -- a conditional jump on a register
 abbrev pub branch_reg : Fields → Row
 branch_reg f = when (is_jump_reg f && is_register f.dst && is_register f.src && f.imm == 0)
-    (option_map (λ op. insn.BranchReg op (is_jump_wide f) f.dst f.src (offset_of f)) (named jump_codes (code_of f)))
+    (option_map (λ op. insn.BranchReg op (is_jump_wide f) f.dst f.src (offset_of f)) (named jump_codes (operation_code f)))
 
 -- CALL of helper 1
 abbrev pub call_helper : Fields → Row
@@ -252,7 +252,7 @@ call_local f = when (f.opcode == 0x85 && f.dst == 0 && f.src == 1 && f.offset ==
 abbrev pub exit : Fields → Row
 exit f = when (f.opcode == 0x95 && f.dst == 0 && f.src == 0 && f.offset == 0 && f.imm == 0) (Some insn.Exit)
 
--- the second unit of a load of 64 bits: all zero but its immediate
+-- the second unit of a load_plain of 64 bits: all zero but its immediate
 abbrev pub is_second : Fields → Bool
 is_second n = n.opcode == 0 && n.dst == 0 && n.src == 0 && n.offset == 0
 
@@ -260,14 +260,14 @@ is_second n = n.opcode == 0 && n.dst == 0 && n.src == 0 && n.offset == 0
 abbrev pub second_imm : Option Fields → Option ℕ
 second_imm next = option_and_then (λ n. if is_second n then Some n.imm else None) next
 
--- the load of 64 bits, whose high half is the immediate of the next unit
+-- the load_plain of 64 bits, whose high half is the immediate of the next unit
 abbrev pub load_imm : Fields → Option Fields → Row
 load_imm f next = when (f.opcode == 0x18 && is_writable f.dst && f.src == 0 && f.offset == 0)
     (option_map (λ high. insn.LoadImm f.dst (f.imm + 2 ^ 32 * high)) (second_imm next))
 
 -- LDX MEM
-abbrev pub load : Fields → Row
-load f = when (class_of f == 1 && mode_of f == 3 && is_writable f.dst && is_register f.src && f.imm == 0)
+abbrev pub load_plain : Fields → Row
+load_plain f = when (class_of f == 1 && mode_of f == 3 && is_writable f.dst && is_register f.src && f.imm == 0)
     (option_map (λ size. insn.Load size f.dst f.src (offset_of f)) (named access_widths (width_of f)))
 
 -- LDX MEMSX
@@ -310,7 +310,7 @@ rows f next =
     alu_imm f ∷ alu_reg f ∷ div_imm f ∷ div_reg f ∷ neg f ∷ mov_imm f ∷ mov_reg f ∷ movsx_32 f ∷ movsx_64 f
     ∷ to_little f ∷ to_big f ∷ swap f
     ∷ ja f ∷ ja_long f ∷ branch_imm f ∷ branch_reg f ∷ call_helper f ∷ call_local f ∷ exit f
-    ∷ load_imm f next ∷ load f ∷ load_signed f ∷ store_imm f ∷ store_reg f
+    ∷ load_imm f next ∷ load_plain f ∷ load_signed f ∷ store_imm f ∷ store_reg f
     ∷ atomic_plain f ∷ atomic_fetch f ∷ compare_exchange f ∷ []
 
 -- what the first row that fits makes
@@ -324,7 +324,7 @@ insn_of f next = first_fit (rows f next)
 
 -- the instruction that the bytes begin with, if they begin with one
 abbrev pub first_form : List ℕ → Option Insn
-first_form bytes = option_and_then (λ f. insn_of f (fields_of (drop 8 bytes))) (fields_of bytes)
+first_form bytes = option_and_then (λ f. insn_of f (unit_fields (drop 8 bytes))) (unit_fields bytes)
 
 -- the instruction whose form stands at a place of code, if there is one
 abbrev pub form : List ℕ → ℕ → Option Insn

@@ -48,8 +48,8 @@ abbrev pub LiesIn : MemRange → ℕ → ℕ → Type 0
 LiesIn range ns offset = (k : ℕ) × (k < range.len) × (range.ns ≡ ns) × (range.at + k ≡ offset)
 
 -- whether a byte of a namespace lies in one of the ranges
-abbrev pub Covers : List MemRange → ℕ → ℕ → Type 0
-Covers ranges ns offset = (index : ℕ) × LiesIn (range_at ranges index) ns offset
+abbrev pub CoversByte : List MemRange → ℕ → ℕ → Type 0
+CoversByte ranges ns offset = (index : ℕ) × LiesIn (range_at ranges index) ns offset
 
 -- whether a byte of a namespace lies in one of the read-write ranges
 abbrev pub CoversForWriting : List MemRange → ℕ → ℕ → Type 0

@@ -1,7 +1,7 @@
 //! Laws of runs.
 ghost use Rattle.std.specs.Prelude.{◌≡◌, ℕ, ◌^◌, ◌<◌, List, length, All};
 ghost use Rattle.cp_base.specs.declared.lists.MemRange.{MemRange};
-ghost use Rattle.bpf_model.specs.Memory.{Memory, HoldsBytes, Covers, CoversForWriting, AreApart, windows_of, read_write_of};
+ghost use Rattle.bpf_model.specs.Memory.{Memory, HoldsBytes, CoversByte, CoversForWriting, AreApart, windows_of, read_write_of};
 ghost use Rattle.bpf_model.specs.Outcome.{outcome, EndFits};
 ghost use Rattle.bpf_model.specs.Step.{Program};
 ghost use Rattle.bpf_model.specs.Walk.{instruction_at};
@@ -16,11 +16,11 @@ pub fn runs_are_confined()
 /// ranges it ends in the same way, and they agree there afterwards.
 pub fn runs_are_local()
     ensures ending { (program : Program) (ranges : List MemRange) (a b : Memory) (p1 p2 budget : ℕ) →
-        ((ns offset : ℕ) → Covers ranges ns offset → a ns offset ≡ b ns offset) →
+        ((ns offset : ℕ) → CoversByte ranges ns offset → a ns offset ≡ b ns offset) →
         (outcome program ranges a p1 p2 budget).ending ≡ (outcome program ranges b p1 p2 budget).ending }
     ensures memory { (program : Program) (ranges : List MemRange) (a b : Memory) (p1 p2 budget : ℕ) →
-        ((ns offset : ℕ) → Covers ranges ns offset → a ns offset ≡ b ns offset) →
-        (ns offset : ℕ) → Covers ranges ns offset →
+        ((ns offset : ℕ) → CoversByte ranges ns offset → a ns offset ≡ b ns offset) →
+        (ns offset : ℕ) → CoversByte ranges ns offset →
         (outcome program ranges a p1 p2 budget).memory ns offset ≡ (outcome program ranges b p1 p2 budget).memory ns offset }
 {}
 

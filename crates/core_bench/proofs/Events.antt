@@ -8,10 +8,10 @@ use Rattle.trail_model.specs.declared.events.Event.TheVariants as event
 use Rattle.job_run.specs.declared.work.Worked.{Worked}
 use Rattle.device_core.specs.Gives.{HasWorked, world_in}
 use Rattle.device_core.specs.Recorded.{Appends, Recorded}
-use Rattle.step_driver.specs.Held.{Holds}
+use Rattle.step_driver.specs.Held.{HoldsWorks}
 use Rattle.step_driver.specs.declared.running.Held.{Held}
 use Rattle.step_driver.proofs.Holding.{held-count, world-then}
-use Rattle.core_bench.specs.Progress.{IsLater, Sent, open_on, over_on, sent_by, sent_in, sent_on}
+use Rattle.core_bench.specs.Progress.{IsLater, SentCommand, open_on, over_on, sent_by, sent_commands, sent_on}
 
 pub later-then : (old new : Recorded) (e : Event) → Appends old new e → IsLater old new
 later-then old new e appended = record {
@@ -25,13 +25,13 @@ later-same old new same = record {
   commands = ap (λ (d : Recorded). d.commands) same;
 }
 
-sent-append : (trail : Trail) (e : Event) → sent_in (trail ++ e ∷ []) ≡ sent_in trail ++ sent_by e
+sent-append : (trail : Trail) (e : Event) → sent_commands (trail ++ e ∷ []) ≡ sent_commands trail ++ sent_by e
 sent-append [] e = append-nil (sent_by e)
   where
-    append-nil : (sent : List Sent) → sent ++ [] ≡ sent
+    append-nil : (sent : List SentCommand) → sent ++ [] ≡ sent
     append-nil [] = refl
-    append-nil (x ∷ sent) = ap (λ (xs : List Sent). x ∷ xs) (append-nil sent)
-sent-append (x ∷ trail) e = ap (λ (xs : List Sent). sent_by x ++ xs) (sent-append trail e) ∙ sym (append_assoc (sent_by x) (sent_in trail) (sent_by e))
+    append-nil (x ∷ sent) = ap (λ (xs : List SentCommand). x ∷ xs) (append-nil sent)
+sent-append (x ∷ trail) e = ap (λ (xs : List SentCommand). sent_by x ++ xs) (sent-append trail e) ∙ sym (append_assoc (sent_by x) (sent_commands trail) (sent_by e))
 
 -- the commands that were sent, with that of the event
 pub sent-then : (old new : Recorded) (e : Event) → Appends old new e → sent_on new ≡ sent_on old ++ sent_by e
@@ -40,11 +40,11 @@ sent-then old new e appended = ap sent_on appended ∙ sent-append old.trail e
 -- an event that sends none leaves them
 pub sent-still : (old new : Recorded) (e : Event) → Appends old new e → sent_by e ≡ [] → sent_on new ≡ sent_on old
 sent-still old new e appended none =
-    sent-then old new e appended ∙ (ap (λ (xs : List Sent). sent_on old ++ xs) none ∙ append-nil (sent_on old))
+    sent-then old new e appended ∙ (ap (λ (xs : List SentCommand). sent_on old ++ xs) none ∙ append-nil (sent_on old))
   where
-    append-nil : (sent : List Sent) → sent ++ [] ≡ sent
+    append-nil : (sent : List SentCommand) → sent ++ [] ≡ sent
     append-nil [] = refl
-    append-nil (x ∷ sent) = ap (λ (xs : List Sent). x ∷ xs) (append-nil sent)
+    append-nil (x ∷ sent) = ap (λ (xs : List SentCommand). x ∷ xs) (append-nil sent)
 
 -- how many commands are over, with those that the event tells
 pub over-then : (old new : Recorded) (e : Event) → Appends old new e → over_on new ≡ over_on old + length (completions_by (world_in old) e)
@@ -73,5 +73,5 @@ over-finished old new by claim answer done appended found =
     by_found (Some opened) h = refl
 
 -- as many claims are open as works are held
-pub open-held : (d : Recorded) (held : List Held) → Holds d held → open_on d ≡ length held
+pub open-held : (d : Recorded) (held : List Held) → HoldsWorks d held → open_on d ≡ length held
 open-held d held holds = sym (held-count d.config (world_in d).claims held holds.works)

@@ -5,7 +5,7 @@ use Rattle.cp_base.specs.declared.commands.Command.{Command}
 use Rattle.cp_base.specs.declared.commands.Command.TheVariants as command
 use Rattle.cp_base.specs.declared.limits.TheConstants.{MAX_NAMESPACE, MAX_SPAN, MAX_TRANSFER}
 use Rattle.cp_base.specs.declared.region.SpaceId.TheVariants.{Mem}
-use Rattle.core_bench.specs.Progress.{ComesTo, Sent, sent_as}
+use Rattle.core_bench.specs.Progress.{ComesTo, SentCommand, sent_as}
 use Rattle.core_bench.specs.declared.workload.Places.{Places}
 use Rattle.core_bench.specs.declared.workload.Places.TheVariants.{One, Random, Ascending, Span, Read}
 use Rattle.core_bench.specs.declared.workload.Workload.{Workload}
@@ -36,7 +36,7 @@ command_of Span number word = fill_at (number % 256)
 command_of Read number word = read_first
 
 -- host 1 sends the command of a number under identifier 1
-pub record IsByOne (places : Places) (number : ℕ) (sent : Sent) : Type 0 where
+pub record IsByOne (places : Places) (number : ℕ) (sent : SentCommand) : Type 0 where
   pub word : ℕ
   pub same : sent ≡ sent_as 1 1 (command_of places number word)
 
@@ -45,11 +45,11 @@ abbrev pub place_of : Bool → ℕ → ℕ
 place_of apart number = if apart then 64 * (number % 4096) else 0
 
 -- the command of a number where 16 hosts send in turn, each under its 256 identifiers in turn
-abbrev pub sent_in_turn : Bool → ℕ → Sent
+abbrev pub sent_in_turn : Bool → ℕ → SentCommand
 sent_in_turn apart number = sent_as (1 + number % 16) (number / 16 % 256) (command_at (place_of apart number))
 
 -- what was sent is this command
-abbrev pub IsInTurn : Bool → ℕ → Sent → Type 0
+abbrev pub IsInTurn : Bool → ℕ → SentCommand → Type 0
 IsInTurn apart number sent = sent ≡ sent_in_turn apart number
 
 -- how many claims are open: one for each host where the writes are apart, else one

@@ -6,8 +6,8 @@ use Rattle.core_bench.specs.declared.workload.Workload.{Workload}
 use Rattle.core_bench.specs.declared.workload.Workload.TheVariants.{OneByOne, Deep, DeepOnOne, FillAlone}
 
 -- the workload that a word names, where it names one
-abbrev pub named_by : List ℕ → Option Workload
-named_by word =
+abbrev pub core_workload_named : List ℕ → Option Workload
+core_workload_named word =
     if bytes_eq word (codes "one-place") then Some (OneByOne One)
     else if bytes_eq word (codes "random") then Some (OneByOne Random)
     else if bytes_eq word (codes "ascending") then Some (OneByOne Ascending)

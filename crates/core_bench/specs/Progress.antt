@@ -9,17 +9,17 @@ use Rattle.device_core.specs.Gives.{world_in}
 use Rattle.device_core.specs.Recorded.{Recorded}
 
 -- a command that was sent, with its host and the identifier
-pub record Sent : Type 0 where
+pub record SentCommand : Type 0 where
   pub host : ℕ
   pub cid : ℕ
   pub command : Command
 
 -- what a host sends under an identifier
-abbrev pub sent_as : ℕ → ℕ → Command → Sent
+abbrev pub sent_as : ℕ → ℕ → Command → SentCommand
 sent_as host cid command = record { host = host; cid = cid; command = command }
 
 -- what an event sends: a submit its command
-abbrev pub sent_by : Event → List Sent
+abbrev pub sent_by : Event → List SentCommand
 sent_by (event.Submit by cid ordinal command) = sent_as by cid command ∷ []
 sent_by (event.Claim by host ordinal sent) = []
 sent_by (event.Finish by claim answer) = []
@@ -28,13 +28,13 @@ sent_by (event.Take by cid posted) = []
 sent_by (event.Rest by) = []
 
 -- the commands that are sent in a trail, in order
-abbrev pub sent_in : Trail → List Sent
-sent_in [] = []
-sent_in (e ∷ trail) = sent_by e ++ sent_in trail
+abbrev pub sent_commands : Trail → List SentCommand
+sent_commands [] = []
+sent_commands (e ∷ trail) = sent_by e ++ sent_commands trail
 
 -- the commands that were sent to a device, in order
-abbrev pub sent_on : Recorded → List Sent
-sent_on d = sent_in d.trail
+abbrev pub sent_on : Recorded → List SentCommand
+sent_on d = sent_commands d.trail
 
 -- how many claims are open on a device
 abbrev pub open_on : Recorded → ℕ
@@ -50,20 +50,20 @@ pub record IsLater (old new : Recorded) : Type 0 where
   pub commands : new.commands ≡ old.commands
 
 -- each of these commands is as its number asks, the first as this one
-abbrev pub EachFrom : ℕ → (ℕ → Sent → Type 0) → List Sent → Type 0
+abbrev pub EachFrom : ℕ → (ℕ → SentCommand → Type 0) → List SentCommand → Type 0
 EachFrom number Has [] = Unit {0}
 EachFrom number Has (x ∷ sent) = Has number x × EachFrom (number + 1) Has sent
 
 -- so many commands were sent, each as its number asks, from 0
-pub record AreSent (Has : ℕ → Sent → Type 0) (count : ℕ) (sent : List Sent) : Type 0 where
+pub record AreSent (Has : ℕ → SentCommand → Type 0) (count : ℕ) (sent : List SentCommand) : Type 0 where
   pub each : EachFrom 0 Has sent
   pub all : length sent ≡ count
 
 -- On a device of this configuration so many commands were sent, each as its number asks, which are all that may be; so many claims
 -- are open, and so many commands over: it has a lawful trail that comes to this.
-pub record ComesTo (c : Configuration) (commands working done : ℕ) (Has : ℕ → Sent → Type 0) : Type 0 where
+pub record ComesTo (c : Configuration) (commands working done : ℕ) (Has : ℕ → SentCommand → Type 0) : Type 0 where
   pub trail : Trail
   pub lawful : IsLawful c commands trail
-  pub sent : AreSent Has commands (sent_in trail)
+  pub sent : AreSent Has commands (sent_commands trail)
   pub claims : length (world_of c trail).claims ≡ working
   pub over : length (history_of c trail) ≡ done

@@ -24,13 +24,13 @@ pub struct Device {
 
 impl Model for Device {
     ghost use Rattle.device_core.specs.Recorded.{Recorded};
-    ghost use Rattle.step_driver.specs.Held.{Holds};
+    ghost use Rattle.step_driver.specs.Held.{HoldsWorks};
 
     ghost Value = { Recorded };
 
     ghost view = { λ d. d.core };
 
-    ghost invariant = { λ d. Holds d.core d.held.items };
+    ghost invariant = { λ d. HoldsWorks d.core d.held.items };
 }
 
 // Whether none of the works is that of a party.

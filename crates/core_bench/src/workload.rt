@@ -1,6 +1,6 @@
 //! The workloads.
 ghost use Rattle.std.specs.Prelude.{◌≡◌};
-ghost use Rattle.core_bench.specs.Names.{named_by};
+ghost use Rattle.core_bench.specs.Names.{core_workload_named};
 
 /// What is done.
 #[derive(Clone, Copy, Debug, PartialEq, Eq)]
@@ -33,7 +33,7 @@ pub enum Places {
 impl Workload {
     /// The workload of this name. `None` where it is the name of none.
     pub fn named(word: &str) -> Option<Workload>
-        ensures { result ≡ named_by word.now }
+        ensures { result ≡ core_workload_named word.now }
     {
         if word == "one-place" {
             Some(Workload::OneByOne(Places::One))

@@ -6,7 +6,7 @@ ghost use Rattle.cp_base.specs.declared.region.SpaceId.TheVariants.{Mem};
 ghost use Rattle.device_model.specs.Examples.{small};
 ghost use Rattle.queue_pairs.specs.declared.causes.SendCause.TheVariants.{CidBusy, Spent};
 ghost use Rattle.queue_pairs.specs.declared.causes.TakeCause.TheVariants.{NotOutstanding, NotYet};
-ghost use Rattle.trail_model.specs.Examples.{done, fill_and_abort, first_is_over, two_that_meet};
+ghost use Rattle.trail_model.specs.Examples.{answered_ok, fill_and_abort, first_is_over, two_that_meet};
 ghost use Rattle.trail_model.specs.Lawful.{IsLawful, Trail};
 ghost use Rattle.core_model.specs.Causes.{submit_cause_in, take_answer_in};
 ghost use Rattle.core_model.specs.Picking.{pickable_waiting, withdrawn_waiting};
@@ -41,5 +41,5 @@ pub fn parts_by_example()
 pub fn withdrawn_parts_by_example()
     ensures names { withdrawn_waiting (parts_at small fill_and_abort).waiting (Some 0) ≡ Some 0 }
     ensures claimed { withdrawn_waiting (parts_at small (fill_and_abort ++ Event.Claim 17 1 1 0 ∷ [])).waiting (Some 0) ≡ None }
-    ensures entries { entries_of small (fill_and_abort ++ Event.Do 17 1 2 1 done (Some 0) ∷ []) ≡ entry_of 2 1 ∷ entry_of 2 0 ∷ [] }
+    ensures entries { entries_of small (fill_and_abort ++ Event.Do 17 1 2 1 answered_ok (Some 0) ∷ []) ≡ entry_of 2 1 ∷ entry_of 2 0 ∷ [] }
 {}

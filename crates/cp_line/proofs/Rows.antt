@@ -4,8 +4,8 @@ use Rattle.std.specs.Prelude.{if◌then◌else◌, codes, decimal}
 use Rattle.std.specs.Str.{bytes_eq}
 use Rattle.std.proofs.lemmas.Slice.Eq.{bytes_eq-Decides}
 use Rattle.cp_base.specs.declared.limits.TheConstants.{MAX_HOSTS}
-use Rattle.cp_text.proofs.NumberTexts.{number_of-decimal, number_of-spelled}
-use Rattle.cp_text.specs.Number.{number_of}
+use Rattle.cp_text.proofs.NumberTexts.{spelled_number-decimal, spelled_number-spelled}
+use Rattle.cp_text.specs.Number.{spelled_number}
 use Rattle.cp_line.specs.Orders.{IsInTable, made_of, order_of, order_of_three, order_of_two, order_of_word, with_one, with_two, within, words_of, workers_of}
 use Rattle.cp_line.specs.declared.limits.TheConstants.{MAX_MADE}
 use Rattle.cp_line.specs.declared.order.Order.{Order}
@@ -27,20 +27,20 @@ within_kept least most n low high = grind arith
 
 workers_spelled : (text : List ℕ) (n : ℕ) → workers_of text ≡ Some n → (text ≡ decimal n) × (1 ≤ n) × (n ≤ MAX_HOSTS)
 workers_spelled text n h =
-    let read = within_some 1 MAX_HOSTS (number_of text) n h in
-    ((number_of-spelled text n read.0).0, read.1, read.2)
+    let read = within_some 1 MAX_HOSTS (spelled_number text) n h in
+    ((spelled_number-spelled text n read.0).0, read.1, read.2)
 
 made_spelled : (text : List ℕ) (n : ℕ) → made_of text ≡ Some n → (text ≡ decimal n) × (n ≤ MAX_MADE)
 made_spelled text n h =
-    let read = within_some 0 MAX_MADE (number_of text) n h in
-    ((number_of-spelled text n read.0).0, read.2)
+    let read = within_some 0 MAX_MADE (spelled_number text) n h in
+    ((spelled_number-spelled text n read.0).0, read.2)
 
 workers_read : (n : ℕ) → 1 ≤ n → n ≤ MAX_HOSTS → workers_of (decimal n) ≡ Some n
 workers_read n low high =
-    ap (within 1 MAX_HOSTS) (number_of-decimal n (omega arith)) ∙ within_kept 1 MAX_HOSTS n low high
+    ap (within 1 MAX_HOSTS) (spelled_number-decimal n (omega arith)) ∙ within_kept 1 MAX_HOSTS n low high
 
 made_read : (n : ℕ) → n ≤ MAX_MADE → made_of (decimal n) ≡ Some n
-made_read n high = ap (within 0 MAX_MADE) (number_of-decimal n (omega arith)) ∙ within_kept 0 MAX_MADE n (omega arith) high
+made_read n high = ap (within 0 MAX_MADE) (spelled_number-decimal n (omega arith)) ∙ within_kept 0 MAX_MADE n (omega arith) high
 
 -- two numbers that are there
 two_some : (make : ℕ → ℕ → Order) (p q : Option ℕ) (o : Order) (P : Type 0)
@@ -91,24 +91,24 @@ two_rows word first o =
     by_test (bytes_eq word (codes "serve")) _ _ o (IsRow (word ∷ first ∷ []) o) (serve_row word first o) (λ h. absurd cc)
 
 step_row : (word first second : List ℕ) (o : Order) → bytes_eq word (codes "step") ≡ true
-    → with_two (λ workers choices. order.Step workers choices) (workers_of first) (number_of second) ≡ Some o
+    → with_two (λ workers choices. order.Step workers choices) (workers_of first) (spelled_number second) ≡ Some o
     → IsRow (word ∷ first ∷ second ∷ []) o
 step_row word first second o test =
-    two_some (λ workers choices. order.Step workers choices) (workers_of first) (number_of second) o
+    two_some (λ workers choices. order.Step workers choices) (workers_of first) (spelled_number second) o
     (IsRow (word ∷ first ∷ second ∷ []) o) (λ a b left right is.
     let one = workers_spelled first a left in
-    let two = number_of-spelled second b right in
+    let two = spelled_number-spelled second b right in
     let words : word ∷ first ∷ second ∷ [] ≡ codes "step" ∷ decimal a ∷ decimal b ∷ [] =
     cc (same word (codes "step") test, one.0, two.0) in
     subst (λ (x : Order). IsRow (word ∷ first ∷ second ∷ []) x) is (words, (one.1, one.2, two.1)))
 
 make_row : (word first second : List ℕ) (o : Order) → bytes_eq word (codes "make") ≡ true
-    → with_two (λ seed commands. order.Make seed commands) (number_of first) (made_of second) ≡ Some o
+    → with_two (λ seed commands. order.Make seed commands) (spelled_number first) (made_of second) ≡ Some o
     → IsRow (word ∷ first ∷ second ∷ []) o
 make_row word first second o test =
-    two_some (λ seed commands. order.Make seed commands) (number_of first) (made_of second) o
+    two_some (λ seed commands. order.Make seed commands) (spelled_number first) (made_of second) o
     (IsRow (word ∷ first ∷ second ∷ []) o) (λ a b left right is.
-    let one = number_of-spelled first a left in
+    let one = spelled_number-spelled first a left in
     let two = made_spelled second b right in
     let words : word ∷ first ∷ second ∷ [] ≡ codes "make" ∷ decimal a ∷ decimal b ∷ [] =
     cc (same word (codes "make") test, one.0, two.0) in
@@ -132,11 +132,11 @@ row_of (word ∷ first ∷ second ∷ third ∷ words) o h = absurd cc
 -- the row of an order is it
 pub read_row : (o : Order) → IsInTable o → order_of (words_of o) ≡ Some o
 read_row (order.Step workers choices) h =
-    ap (λ (p : Option ℕ). with_two (λ w c. order.Step w c) p (number_of (decimal choices))) (workers_read workers h.0 h.1)
-    ∙ ap (λ (q : Option ℕ). with_two (λ w c. order.Step w c) (Some workers) q) (number_of-decimal choices h.2)
+    ap (λ (p : Option ℕ). with_two (λ w c. order.Step w c) p (spelled_number (decimal choices))) (workers_read workers h.0 h.1)
+    ∙ ap (λ (q : Option ℕ). with_two (λ w c. order.Step w c) (Some workers) q) (spelled_number-decimal choices h.2)
 read_row (order.Serve workers) h = ap (λ (p : Option ℕ). with_one (λ w. order.Serve w) p) (workers_read workers h.0 h.1)
 read_row (order.Make seed commands) h =
-    ap (λ (p : Option ℕ). with_two (λ s c. order.Make s c) p (made_of (decimal commands))) (number_of-decimal seed h.0)
+    ap (λ (p : Option ℕ). with_two (λ s c. order.Make s c) p (made_of (decimal commands))) (spelled_number-decimal seed h.0)
     ∙ ap (λ (q : Option ℕ). with_two (λ s c. order.Make s c) (Some seed) q) (made_read commands h.1)
 read_row order.Asm h = refl
 read_row order.Dis h = refl

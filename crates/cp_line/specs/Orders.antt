@@ -2,7 +2,7 @@
 use Rattle.std.specs.Prelude.{ℕ, ◌^◌, ◌<◌, ◌≤◌, nat_le, ◌&&◌, List, [], ◌∷◌, Option, Some, None, if◌then◌else◌, codes, decimal}
 use Rattle.std.specs.Str.{bytes_eq}
 use Rattle.cp_base.specs.declared.limits.TheConstants.{MAX_HOSTS}
-use Rattle.cp_text.specs.Number.{number_of}
+use Rattle.cp_text.specs.Number.{spelled_number}
 use Rattle.cp_line.specs.declared.limits.TheConstants.{MAX_MADE}
 use Rattle.cp_line.specs.declared.order.Order.{Order}
 use Rattle.cp_line.specs.declared.order.Order.TheVariants as order
@@ -35,11 +35,11 @@ within least most (Some n) = if nat_le least n && nat_le n most then Some n else
 
 -- the number of workers that a text spells
 abbrev pub workers_of : List ℕ → Option ℕ
-workers_of text = within 1 MAX_HOSTS (number_of text)
+workers_of text = within 1 MAX_HOSTS (spelled_number text)
 
 -- the number of a load's commands that a text spells
 abbrev pub made_of : List ℕ → Option ℕ
-made_of text = within 0 MAX_MADE (number_of text)
+made_of text = within 0 MAX_MADE (spelled_number text)
 
 -- two numbers that may be missing, made an order
 abbrev pub with_two : (ℕ → ℕ → Order) → Option ℕ → Option ℕ → Option Order
@@ -68,8 +68,8 @@ order_of_two word first = if bytes_eq word (codes "serve") then with_one (λ wor
 -- what a word and two others order
 abbrev pub order_of_three : List ℕ → List ℕ → List ℕ → Option Order
 order_of_three word first second =
-    if bytes_eq word (codes "step") then with_two (λ workers choices. order.Step workers choices) (workers_of first) (number_of second)
-    else if bytes_eq word (codes "make") then with_two (λ seed commands. order.Make seed commands) (number_of first) (made_of second)
+    if bytes_eq word (codes "step") then with_two (λ workers choices. order.Step workers choices) (workers_of first) (spelled_number second)
+    else if bytes_eq word (codes "make") then with_two (λ seed commands. order.Make seed commands) (spelled_number first) (made_of second)
     else None
 
 -- the order that words are; None where they are those of none

@@ -8,7 +8,7 @@ use Rattle.std.proofs.lemmas.List.Elements.{All-from_get_or}
 use Rattle.std.proofs.lemmas.Str.Parse.{IsNumeralModel, digit_at, numerals_by_value, tells_digits}
 use Rattle.std.proofs.lemmas.Fmt.{decimal-digits_value, decimal_digit, decimal_nonempty, digits_decimal, digits_value-decimal, first_decimal, length-decimal-le}
 use Rattle.cp_text.proofs.Choices.{chosen, other, taken}
-use Rattle.cp_text.specs.Number.{AreDigits, digits_after, extended, number_of}
+use Rattle.cp_text.specs.Number.{AreDigits, digits_after, extended, spelled_number}
 
 -- std's digits and their value, as std's lemmas take them
 numerals : IsNumeralModel (AllDigits 10) (digits_value 10)
@@ -61,30 +61,30 @@ abbrev IsShortest : List ℕ → Type 0
 IsShortest text = (0 < length text) × (get_or text 0 0 ≡ 48 → length text ≡ 1)
 
 -- a text is a number where it is digits in one form whose value has 64 bits
-pub number_of-digits : (text : List ℕ) → AllDigits 10 text → IsShortest text → digits_value 10 text < 2 ^ 64
-    → number_of text ≡ Some (digits_value 10 text)
-number_of-digits [] digits form low = absurd (omega arith)
-number_of-digits (digit ∷ []) digits form low = digits_after-digits 0 (digit ∷ []) digits low
-number_of-digits (first ∷ second ∷ rest) digits form low =
+pub spelled_number-digits : (text : List ℕ) → AllDigits 10 text → IsShortest text → digits_value 10 text < 2 ^ 64
+    → spelled_number text ≡ Some (digits_value 10 text)
+spelled_number-digits [] digits form low = absurd (omega arith)
+spelled_number-digits (digit ∷ []) digits form low = digits_after-digits 0 (digit ∷ []) digits low
+spelled_number-digits (first ∷ second ∷ rest) digits form low =
     let test : (first == 48) ≡ false = grind (arith, form.1) in
     rw test (digits_after-digits 0 (first ∷ second ∷ rest) digits low)
 
 -- a number's text is digits in one form whose value is the number
-pub number_of-some : (text : List ℕ) (n : ℕ) → number_of text ≡ Some n
+pub spelled_number-some : (text : List ℕ) (n : ℕ) → spelled_number text ≡ Some n
     → AllDigits 10 text × IsShortest text × (digits_value 10 text ≡ n) × (n < 2 ^ 64)
-number_of-some [] n h = cc h
-number_of-some (digit ∷ []) n h =
+spelled_number-some [] n h = cc h
+spelled_number-some (digit ∷ []) n h =
     let read = digits_after-some 0 (digit ∷ []) n (omega arith) h in
     (read.0, (omega arith, λ zero. refl), read.1, read.2)
-number_of-some (first ∷ second ∷ rest) n h =
+spelled_number-some (first ∷ second ∷ rest) n h =
     let test = other (first == 48) (digits_after 0 (first ∷ second ∷ rest)) n h in
     let read = digits_after-some 0 (first ∷ second ∷ rest) n (omega arith) test.1 in
     (read.0, (omega arith, λ zero. absurd (grind (arith, test.0, zero))), read.1, read.2)
 
 -- what is read as a number is its decimal text
-pub number_of-spelled : (text : List ℕ) (n : ℕ) → number_of text ≡ Some n → (text ≡ decimal n) × (n < 2 ^ 64)
-number_of-spelled text n h =
-    let read = number_of-some text n h in
+pub spelled_number-spelled : (text : List ℕ) (n : ℕ) → spelled_number text ≡ Some n → (text ≡ decimal n) × (n < 2 ^ 64)
+spelled_number-spelled text n h =
+    let read = spelled_number-some text n h in
     let low : digits_value 10 text < 2 ^ 64 = rw read.2 read.3 in
     let spelled = decimal-digits_value numerals text read.0 read.1.0 read.1.1 low in
     (sym spelled ∙ ap decimal read.2, read.3)
@@ -101,10 +101,10 @@ decimal-shortest n low =
     ]
 
 -- the decimal text of a number is read as it
-pub number_of-decimal : (n : ℕ) → n < 2 ^ 64 → number_of (decimal n) ≡ Some n
-number_of-decimal n low =
+pub spelled_number-decimal : (n : ℕ) → n < 2 ^ 64 → spelled_number (decimal n) ≡ Some n
+spelled_number-decimal n low =
     let value = digits_value-decimal numerals n low in
-    number_of-digits (decimal n) (digits_decimal numerals n low) (decimal-shortest n low) (rw value low)
+    spelled_number-digits (decimal n) (digits_decimal numerals n low) (decimal-shortest n low) (rw value low)
     ∙ ap Some value
 
 -- no byte of a decimal text is but a digit 0 to 9

@@ -7,8 +7,8 @@ use Rattle.std.proofs.lemmas.Bool.{cases_eq}
 use Rattle.std.proofs.lemmas.Fmt.{decimal_nonempty, length_signed_le, signed_decimal_injective}
 use Rattle.std.proofs.lemmas.List.Elements.{All-cons, All-get_or, All-weaker}
 use Rattle.cp_text.proofs.Choices.{chosen, left, taken}
-use Rattle.cp_text.proofs.NumberTexts.{decimal-are_digits, length-decimal-bounds, number_of-decimal, number_of-spelled}
-use Rattle.cp_text.specs.Number.{number_of}
+use Rattle.cp_text.proofs.NumberTexts.{decimal-are_digits, length-decimal-bounds, spelled_number-decimal, spelled_number-spelled}
+use Rattle.cp_text.specs.Number.{spelled_number}
 use Rattle.cp_text.specs.Signed.{AreSignedDigits, IsSignedDigit, negated, plain, signed_of}
 
 -- where a plain number is found
@@ -40,32 +40,32 @@ fits_negsuc : (n : ℕ) → n < 2 ^ 63 → FitsSigned w64 (negsuc n)
 fits_negsuc n low = record { sfits = low }
 
 -- a text with no minus
-signed_of-plain : (text : List ℕ) → get_or text 0 0 ≢ 45 → signed_of text ≡ plain (number_of text)
+signed_of-plain : (text : List ℕ) → get_or text 0 0 ≢ 45 → signed_of text ≡ plain (spelled_number text)
 signed_of-plain [] h = refl
 signed_of-plain (first ∷ rest) h =
     let test : (first == 45) ≡ false = grind (arith, h) in
-    left (first == 45) (negated (number_of rest)) (plain (number_of (first ∷ rest))) test
+    left (first == 45) (negated (spelled_number rest)) (plain (spelled_number (first ∷ rest))) test
 
 -- a text with a minus
-signed_of-minus : (first : ℕ) (rest : List ℕ) → first ≡ 45 → signed_of (first ∷ rest) ≡ negated (number_of rest)
+signed_of-minus : (first : ℕ) (rest : List ℕ) → first ≡ 45 → signed_of (first ∷ rest) ≡ negated (spelled_number rest)
 signed_of-minus first rest h =
     let test : (first == 45) ≡ true = grind (arith, h) in
-    taken (first == 45) (negated (number_of rest)) (plain (number_of (first ∷ rest))) test
+    taken (first == 45) (negated (spelled_number rest)) (plain (spelled_number (first ∷ rest))) test
 
 -- what is read without a minus
-plain-spelled : (text : List ℕ) (z : ℤ) → plain (number_of text) ≡ Some z → (text ≡ signed_decimal z) × FitsSigned w64 z
+plain-spelled : (text : List ℕ) (z : ℤ) → plain (spelled_number text) ≡ Some z → (text ≡ signed_decimal z) × FitsSigned w64 z
 plain-spelled text z h =
-    let found = plain-some (number_of text) z h in
-    let spelled = number_of-spelled text found.0 found.1 in
+    let found = plain-some (spelled_number text) z h in
+    let spelled = spelled_number-spelled text found.0 found.1 in
     let same = same_signed (pos found.0) z found.2 in
     (spelled.0 ∙ ap signed_decimal same, rw (← same) (fits_pos found.0 found.3))
 
 -- what is read after a minus
-negated-spelled : (first : ℕ) (rest : List ℕ) (z : ℤ) → first ≡ 45 → negated (number_of rest) ≡ Some z
+negated-spelled : (first : ℕ) (rest : List ℕ) (z : ℤ) → first ≡ 45 → negated (spelled_number rest) ≡ Some z
     → ((first ∷ rest) ≡ signed_decimal z) × FitsSigned w64 z
 negated-spelled first rest z minus h =
-    let found = negated-some (number_of rest) z h in
-    let spelled = number_of-spelled rest (suc found.0) found.1 in
+    let found = negated-some (spelled_number rest) z h in
+    let spelled = spelled_number-spelled rest (suc found.0) found.1 in
     let same = same_signed (negsuc found.0) z found.2 in
     (rw (minus, spelled.0) (ap signed_decimal same), rw (← same) (fits_negsuc found.0 found.3))
 
@@ -90,13 +90,13 @@ signed_of-decimal (pos n) fits =
     let low : n < 2 ^ 63 = fits.sfits in
     let short : n < 2 ^ 64 = omega arith in
     let test : nat_lt n (2 ^ 63) ≡ true = grind (arith, low) in
-    signed_of-plain (decimal n) (decimal-no_minus n short) ∙ ap plain (number_of-decimal n short)
+    signed_of-plain (decimal n) (decimal-no_minus n short) ∙ ap plain (spelled_number-decimal n short)
     ∙ taken (nat_lt n (2 ^ 63)) (Some (pos n)) None test
 signed_of-decimal (negsuc n) fits =
     let low : n < 2 ^ 63 = fits.sfits in
     let short : suc n < 2 ^ 64 = omega arith in
     let test : nat_lt n (2 ^ 63) ≡ true = grind (arith, low) in
-    ap negated (number_of-decimal (suc n) short) ∙ taken (nat_lt n (2 ^ 63)) (Some (negsuc n)) None test
+    ap negated (spelled_number-decimal (suc n) short) ∙ taken (nat_lt n (2 ^ 63)) (Some (negsuc n)) None test
 
 -- a signed decimal text has digits, and a minus where there is one
 pub signed_decimal-are_digits : (z : ℤ) → FitsSigned w64 z → AreSignedDigits (signed_decimal z)

@@ -18,10 +18,10 @@ digits_after value (byte ∷ rest) =
 
 -- the number that a text spells; None where it spells none: it is empty, a byte is no digit, a zero
 -- leads other digits, or the value is above 18,446,744,073,709,551,615
-abbrev pub number_of : List ℕ → Option ℕ
-number_of [] = None
-number_of (digit ∷ []) = digits_after 0 (digit ∷ [])
-number_of (first ∷ second ∷ rest) =
+abbrev pub spelled_number : List ℕ → Option ℕ
+spelled_number [] = None
+spelled_number (digit ∷ []) = digits_after 0 (digit ∷ [])
+spelled_number (first ∷ second ∷ rest) =
     if first == 48 then None else digits_after 0 (first ∷ second ∷ rest)
 
 -- each is a digit 0 to 9

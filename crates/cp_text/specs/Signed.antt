@@ -1,7 +1,7 @@
 -- Texts of signed numbers: a number, or a minus and a number that is not 0, and at most 64 bits.
 -- The one text of a signed number z is `signed_decimal z`. This project's own.
 use Rattle.std.specs.Prelude.{◌≡◌, ℕ, zero, suc, ◌≤◌, ◌⊎◌, All, ◌^◌, ◌==◌, nat_lt, List, [], ◌∷◌, ℤ, pos, negsuc, Option, Some, None, if◌then◌else◌}
-use Rattle.cp_text.specs.Number.{number_of}
+use Rattle.cp_text.specs.Number.{spelled_number}
 
 -- the signed number of a text without a minus: at most 9,223,372,036,854,775,807
 abbrev pub plain : Option ℕ → Option ℤ
@@ -18,7 +18,7 @@ negated (Some (suc n)) = if nat_lt n (2 ^ 63) then Some (negsuc n) else None
 abbrev pub signed_of : List ℕ → Option ℤ
 signed_of [] = None
 signed_of (first ∷ rest) =
-    if first == 45 then negated (number_of rest) else plain (number_of (first ∷ rest))
+    if first == 45 then negated (spelled_number rest) else plain (spelled_number (first ∷ rest))
 
 -- a digit 0 to 9, or a minus
 abbrev pub IsSignedDigit : ℕ → Type 0

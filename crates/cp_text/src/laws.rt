@@ -3,16 +3,16 @@ ghost use Rattle.std.specs.Prelude.{◌≡◌, ℕ, ◌+◌, ◌*◌, ◌^◌, �
 ghost use Rattle.std.specs.Fmt.{signed_decimal};
 ghost use Rattle.std.specs.Int.{w64};
 ghost use Rattle.cp_text.specs.Parts.{all_lack, joined_by, lacks, parts_between};
-ghost use Rattle.cp_text.specs.Number.{AreDigits, number_of};
+ghost use Rattle.cp_text.specs.Number.{AreDigits, spelled_number};
 ghost use Rattle.cp_text.specs.Signed.{AreSignedDigits, signed_of};
 ghost use Rattle.cp_text.specs.HexText.{AreBytes, AreHexDigits, hex_of, hex_text};
 
 /// A text is read as a number exactly where it is the one text of that number, of 64 bits. This
 /// text is 1 to 20 digits, and another number has another.
 pub fn number_laws()
-    ensures spelled_so { (text : List ℕ) (n : ℕ) → number_of text ≡ Some n
+    ensures spelled_so { (text : List ℕ) (n : ℕ) → spelled_number text ≡ Some n
         → (text ≡ decimal n) × (n < 2 ^ 64) }
-    ensures read_so { (n : ℕ) → n < 2 ^ 64 → number_of (decimal n) ≡ Some n }
+    ensures read_so { (n : ℕ) → n < 2 ^ 64 → spelled_number (decimal n) ≡ Some n }
     ensures one_number { (m n : ℕ) → m < 2 ^ 64 → n < 2 ^ 64
         → decimal m ≡ decimal n → m ≡ n }
     ensures digits { (n : ℕ) → n < 2 ^ 64 → AreDigits (decimal n) }
@@ -60,14 +60,14 @@ pub fn part_laws()
 
 /// What some texts are read as: numbers at the limits, and texts that are nearly numbers.
 pub fn number_examples()
-    ensures empty { number_of [] ≡ None }
-    ensures zero { number_of (codes "0") ≡ Some 0 }
-    ensures leading_zero { number_of (codes "0512") ≡ None }
-    ensures two_zeros { number_of (codes "00") ≡ None }
-    ensures largest { number_of (codes "18446744073709551615") ≡ Some 18446744073709551615 }
-    ensures too_large { number_of (codes "18446744073709551616") ≡ None }
-    ensures plus { number_of (codes "+1") ≡ None }
-    ensures space_behind { number_of (codes "1 ") ≡ None }
+    ensures empty { spelled_number [] ≡ None }
+    ensures zero { spelled_number (codes "0") ≡ Some 0 }
+    ensures leading_zero { spelled_number (codes "0512") ≡ None }
+    ensures two_zeros { spelled_number (codes "00") ≡ None }
+    ensures largest { spelled_number (codes "18446744073709551615") ≡ Some 18446744073709551615 }
+    ensures too_large { spelled_number (codes "18446744073709551616") ≡ None }
+    ensures plus { spelled_number (codes "+1") ≡ None }
+    ensures space_behind { spelled_number (codes "1 ") ≡ None }
 {}
 
 /// The same of signed numbers.

@@ -2,7 +2,7 @@
 ghost use Rattle.std.specs.Prelude.{◌≡◌, ◌+◌, ◌^◌, ◌<◌, ◌≤◌, ◌&&◌, nat_lt, length, decimal, if◌then◌else◌};
 ghost use Rattle.std.specs.Char.{is_ascii_digit};
 ghost use Rattle.cp_base.specs.Growth.{Appended, Pushed};
-ghost use Rattle.cp_text.specs.Number.{extended, number_of};
+ghost use Rattle.cp_text.specs.Number.{extended, spelled_number};
 
 use crate::pieces::push_piece;
 use cp_base::{Bytes, NoMemory};
@@ -10,7 +10,7 @@ use cp_base::{Bytes, NoMemory};
 /// The number that a text spells. `None` where it spells none: it is empty, a byte is no digit, a
 /// zero leads other digits, or the value is above 18,446,744,073,709,551,615.
 pub fn number(text: &[u8]) -> Option<u64>
-    ensures { result ≡ number_of text.now }
+    ensures { result ≡ spelled_number text.now }
 {
     if text.is_empty() || (text.len() > 1 && text[0] == b'0') {
         return None;

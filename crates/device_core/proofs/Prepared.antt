@@ -27,7 +27,7 @@ use Rattle.trail_model.specs.Pieces.{AllBytes, carried}
 use Rattle.trail_model.proofs.Bytes.{length-gathered}
 use Rattle.core_model.specs.Parts.{tables_of}
 use Rattle.extents.specs.Homes.{Homes}
-use Rattle.job_run.specs.Works.{FitsExecution, IsCodeOf, IsWork, region_bytes}
+use Rattle.job_run.specs.Works.{FitsExecution, IsWork, RunsDecoded, region_bytes}
 use Rattle.job_run.specs.declared.work.Work.{Work}
 use Rattle.device_core.proofs.Claimed.{cut-ranges, cut-regions, cut-whole}
 use Rattle.device_core.specs.Portions.{AreCutAt}
@@ -161,7 +161,7 @@ made c s h cmd w e block moves passes cut no_windows no_reply reply fits = recor
 -- what an execution has fits it
 pub setup-fits : {E : Type 0} (r : Result Setup E) (slots : List Slot) (slot number p1 p2 budget pieces : ℕ) (set : Option (List MemRange))
     → IfOk r (λ (setup : Setup). pieces ≤ vec_capacity setup.windows) → IfOk r (λ (setup : Setup). setup.set ≡ set)
-    → IfOk r (λ (setup : Setup). (sets : List RangeSet) → IsCodeOf (executable_in (tables_of slots sets) slot) (option_map (λ decoded. decoded.value) setup.code))
+    → IfOk r (λ (setup : Setup). (sets : List RangeSet) → RunsDecoded (executable_in (tables_of slots sets) slot) (option_map (λ decoded. decoded.value) setup.code))
     → IfOk r (λ (setup : Setup). setup.stack.items ≡ replicate stack_len 0) → IsSome set
     → IfOk r (λ (setup : Setup). (sets : List RangeSet) → set ≡ ranges_under sets number
     → FitsSetup (execution_of (tables_of slots sets) (command.Execute slot number p1 p2 budget)) pieces setup)

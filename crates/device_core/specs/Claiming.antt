@@ -37,6 +37,6 @@ pub record Begins (old new : Keep) (places : ClaimPlaces) (touched : Footprint) 
   pub entries : new.entries.items ≡ old.entries.items
 
 -- a party has claimed the command of a submit, and has its work
-pub record Claims (c : Configuration) (commands : ℕ) (events : List KeptEvent) (by sent : ℕ) (new : Keep) (e : KeptEvent) (work : Work) : Type 0 where
+pub record HasClaimed (c : Configuration) (commands : ℕ) (events : List KeptEvent) (by sent : ℕ) (new : Keep) (e : KeptEvent) (work : Work) : Type 0 where
   pub stands : StandWith c commands events new (told_event e)
   pub claim : IsSomeAnd (submit_at (world_of c (trail_of events)).submits sent) (λ (s : Submission). ClaimsBy c (world_of c (trail_of events)) by (told_event e) work s)

@@ -12,7 +12,7 @@ use Rattle.cp_base.specs.declared.spans.Footprint.{Footprint}
 use Rattle.bpf_model.specs.Address.{stack_len}
 use Rattle.device_model.specs.State.{State}
 use Rattle.trail_model.specs.Footprints.{Execution, carried_regions, execution_of, footprint_of, writes_of}
-use Rattle.job_run.specs.Works.{IsCodeOf}
+use Rattle.job_run.specs.Works.{RunsDecoded}
 use Rattle.device_core.specs.declared.preparing.Setup.{Setup}
 
 -- what a command touches in a state
@@ -46,6 +46,6 @@ set_in sets cmd = set_run_by sets (nature_of cmd)
 -- the set, the code, the stack and the room for windows on so many pieces that an execution has
 pub record FitsSetup (x : Execution) (pieces : ℕ) (setup : Setup) : Type 0 where
   pub set : setup.set ≡ Some x.ranges
-  pub code : IsCodeOf x.runs (option_map (λ decoded. decoded.value) setup.code)
+  pub code : RunsDecoded x.runs (option_map (λ decoded. decoded.value) setup.code)
   pub stack : setup.stack.items ≡ replicate stack_len 0
   pub windows : pieces ≤ vec_capacity setup.windows

@@ -10,7 +10,7 @@ ghost use Rattle.trail_model.specs.Lawful.{IsParty, is_idle, world_of};
 ghost use Rattle.core_model.specs.Asked.{asked_at};
 ghost use Rattle.core_model.specs.Parts.{tables_of};
 ghost use Rattle.core_model.specs.Picking.{may_pick_asked};
-ghost use Rattle.device_core.specs.Claiming.{Begins, Claims, HasStore};
+ghost use Rattle.device_core.specs.Claiming.{Begins, HasClaimed, HasStore};
 ghost use Rattle.device_core.specs.Keep.{AreQueues, Holds, KeepsRoom, OnlyQueue, parts_of, queue_of};
 ghost use Rattle.device_core.specs.Portions.{AreTaken};
 ghost use Rattle.device_core.specs.Recorded.{trail_of};
@@ -156,7 +156,7 @@ fn claim_now(
     requires idle { IsTrue (is_idle (world_of config.now (trail_of trail.now)) by) }
     requires waits { (i : ℕ) × (slice_get keep.old.waiting.items i ≡ Some x) }
     requires may { IsTrue (may_pick_asked config.now (parts_of (length trail.now) keep.old) (asked_at (trail_of trail.now) x.sent)) }
-    ensures claims { IfSome result (λ claimed. Claims config.now commands trail.now by x.sent keep.new claimed.0 claimed.1) }
+    ensures claims { IfSome result (λ claimed. HasClaimed config.now commands trail.now by x.sent keep.new claimed.0 claimed.1) }
     ensures room { OnSome result (KeepsRoom keep.old keep.new) }
     ensures unchanged { IfNone result (HasStore keep.old keep.new) }
 {

@@ -18,7 +18,7 @@ ghost use Rattle.trail_model.specs.Footprints.{Execution, execution_of, footprin
 ghost use Rattle.trail_model.specs.LocalEffects.{written};
 ghost use Rattle.trail_model.specs.Pieces.{AllBytes};
 ghost use Rattle.core_model.specs.Parts.{tables_of};
-ghost use Rattle.job_run.specs.Works.{IsCodeOf, IsWork};
+ghost use Rattle.job_run.specs.Works.{IsWork, RunsDecoded};
 ghost use Rattle.device_core.specs.Portions.{AreCutAt, AreTaken};
 ghost use Rattle.device_core.specs.Preparing.{FitsSetup, carried_in, set_in, taken_in, touched_in};
 
@@ -111,7 +111,7 @@ fn room(alloc: Global, len: u64) -> Result<Bytes, NoMemory>
 fn code_in(slots: &Slots, slot: u32) -> Result<Option<Arc<Decoded>>, NoMemory>
     requires { (sets : List RangeSet) × (first_failing (runnable_checks (tables_of slots.now sets) slot) ≡ None) }
     ensures { IfOk result (λ code. (sets : List RangeSet)
-        → IsCodeOf (executable_in (tables_of slots.now sets) slot) (option_map (λ decoded. decoded.value) code)) }
+        → RunsDecoded (executable_in (tables_of slots.now sets) slot) (option_map (λ decoded. decoded.value) code)) }
 {
     if is_builtin(slot) {
         return Ok(None);
@@ -146,7 +146,7 @@ fn execution_setup(
     ensures windows { IfOk result (λ setup. pieces ≤ vec_capacity setup.windows) }
     ensures set { IfOk result (λ setup. setup.set ≡ option_copied set.entry) }
     ensures code { IfOk result (λ setup. (sets : List RangeSet)
-        → IsCodeOf (executable_in (tables_of slots.now sets) slot) (option_map (λ decoded. decoded.value) setup.code)) }
+        → RunsDecoded (executable_in (tables_of slots.now sets) slot) (option_map (λ decoded. decoded.value) setup.code)) }
     ensures stack { IfOk result (λ setup. setup.stack.items ≡ replicate stack_len 0) }
 {
     let ranges = set.unwrap();

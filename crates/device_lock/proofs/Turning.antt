@@ -28,7 +28,7 @@ use Rattle.device_core.specs.Recorded.{Recorded, with_event}
 use Rattle.device_lock.specs.Names.{DeviceName, recorded_with}
 use Rattle.device_lock.specs.Passes.{DevicePass, IsBackAlone, IsBackWith, IsIdle}
 use Rattle.device_lock.specs.Jobs.{HasClaim, IsDoneFor, IsJobFor, answer_of_done, pass_of_done, place_of_done, worked_of_done}
-use Rattle.device_lock.specs.Answers.{FindsNothing, FindsRest, GoesToRest, HasNone, IsAtRest, IsClaimed, IsCompleted, IsDone, IsPlaced, IsRefused, IsReplied, WasAtRest}
+use Rattle.device_lock.specs.Answers.{FindsNothing, FindsRest, GoesToRest, HasNone, IsAtRest, IsCompleted, IsFirstClaimed, IsFirstDone, IsNotSubmitted, IsReplied, IsSubmitted, WasAtRest}
 use Rattle.device_lock.specs.Given.{GivesFirst}
 use Rattle.device_lock.specs.Turns.{IsTurnOf}
 use Rattle.device_lock.specs.declared.jobs.Done.{Done}
@@ -65,7 +65,7 @@ module _ (d : DeviceName) (p q : DevicePass) (t : Turn Kept Event Fixed) (k : Ke
       → submit_cause (value_in t).core.config (value_in t).core.commands (world_in (value_in t).core) by cid ≡ None
       → place ≡ length (value_in t).core.trail
       → k.core ≡ with_event (value_in t).core (event.Submit by cid (ordinal_after (world_in (value_in t).core).submits by) cmd)
-      → Leaves t k q → IsPlaced d p cid cmd q place
+      → Leaves t k q → IsSubmitted d p cid cmd q place
   placed by cid place cmd own cause at added left =
       let e : Event = event.Submit (party_of p) cid (ordinal_after (world_of d.config (seen_in t)).submits (party_of p)) cmd in
       let back : IsBackWith d p q (seen_in t) e = came-with d p q t k e turn (sent-core by cid cmd own added) left in
@@ -118,7 +118,7 @@ module _ (d : DeviceName) (p q : DevicePass) (t : Turn Kept Event Fixed) (k : Ke
 
   claimed-now : (work : Work) (claim host ordinal : ℕ) (j : Job) → GivesFirst (recorded_with d (seen_in t)) (party_of p) (given.Claimed work claim host ordinal) k.core
       → Leaves t k (Rattle.device_lock.specs.Jobs.pass_of_job j) → Rattle.device_lock.specs.Jobs.place_of_job j ≡ claim → Rattle.device_lock.specs.Jobs.host_of_job j ≡ host
-      → Rattle.device_lock.specs.Jobs.ordinal_of_job j ≡ ordinal → Rattle.device_lock.specs.Jobs.work_of_job j ≡ work → IsIdle p → IsClaimed d p j
+      → Rattle.device_lock.specs.Jobs.ordinal_of_job j ≡ ordinal → Rattle.device_lock.specs.Jobs.work_of_job j ≡ work → IsIdle p → IsFirstClaimed d p j
   claimed-now work claim host ordinal j gives left at of_host of_ordinal has idle =
       let found = some-and (λ (s : Submission). Claims (recorded_with d (seen_in t)) k.core (party_of p) s work × (s.request.host ≡ host) × (s.request.ordinal ≡ ordinal)) (slice_get (pickable_among d.config (world_of d.config (seen_in t))) 0) gives.1 in
       let s : Submission = found.0 in
@@ -151,10 +151,10 @@ module _ (d : DeviceName) (p q : DevicePass) (t : Turn Kept Event Fixed) (k : Ke
 
   pub claimed : (by : ℕ) (work : Work) (claim host ordinal : ℕ) (j : Job) → by ≡ party_of p → GivesFirst (value_in t).core by (given.Claimed work claim host ordinal) k.core
       → Leaves t k (Rattle.device_lock.specs.Jobs.pass_of_job j) → Rattle.device_lock.specs.Jobs.place_of_job j ≡ claim → Rattle.device_lock.specs.Jobs.host_of_job j ≡ host
-      → Rattle.device_lock.specs.Jobs.ordinal_of_job j ≡ ordinal → Rattle.device_lock.specs.Jobs.work_of_job j ≡ work → IsIdle p → IsClaimed d p j
+      → Rattle.device_lock.specs.Jobs.ordinal_of_job j ≡ ordinal → Rattle.device_lock.specs.Jobs.work_of_job j ≡ work → IsIdle p → IsFirstClaimed d p j
   claimed by work claim host ordinal j own gives = claimed-now work claim host ordinal j (given-before by (given.Claimed work claim host ordinal) own gives)
 
-  pub did : (by : ℕ) → by ≡ party_of p → GivesFirst (value_in t).core by given.Did k.core → Leaves t k q → IsDone d p q
+  pub did : (by : ℕ) → by ≡ party_of p → GivesFirst (value_in t).core by given.Did k.core → Leaves t k q → IsFirstDone d p q
   did by own gives left =
       let found = some-and (λ (s : Submission). Does (recorded_with d (seen_in t)) k.core (party_of p) s) (slice_get (pickable_among d.config (world_of d.config (seen_in t))) 0) (given-before by given.Did own gives) in
       let s : Submission = found.0 in

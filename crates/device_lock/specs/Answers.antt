@@ -32,7 +32,7 @@ use Rattle.device_lock.specs.declared.jobs.Job.{Job}
 -- ---- a submit
 
 -- a command is submitted under an identifier: nothing spoke against it, and its submit is the pass's last event, at this place
-pub record IsPlaced (d : DeviceName) (p : DevicePass) (cid : ℕ) (cmd : Command) (q : DevicePass) (place : ℕ) : Type 0 where
+pub record IsSubmitted (d : DeviceName) (p : DevicePass) (cid : ℕ) (cmd : Command) (q : DevicePass) (place : ℕ) : Type 0 where
   pub before : Trail
   pub turn : IsBackWith d p q before (event.Submit (party_of p) cid (ordinal_after (world_of d.config before).submits (party_of p)) cmd)
   pub at_place : place ≡ length before
@@ -40,13 +40,13 @@ pub record IsPlaced (d : DeviceName) (p : DevicePass) (cid : ℕ) (cmd : Command
   pub idle : IsIdle p → IsIdle q
 
 -- a command is not submitted, for this cause, which is there in the trail that the pass has seen
-pub record IsRefused (d : DeviceName) (p : DevicePass) (cid : ℕ) (q : DevicePass) (cause : SendCause) : Type 0 where
+pub record IsNotSubmitted (d : DeviceName) (p : DevicePass) (cid : ℕ) (q : DevicePass) (cause : SendCause) : Type 0 where
   pub turn : IsBackAlone d p q
   pub cause_is : submit_cause d.config d.commands (world_seen d q) (party_of p) cid ≡ Some cause
 
 abbrev pub IsSent : DeviceName → DevicePass → ℕ → Command → Sent → Type 0
-IsSent d p cid cmd (sent.Placed q place) = IsPlaced d p cid cmd q place
-IsSent d p cid cmd (sent.Refused q cause command) = IsRefused d p cid q cause × (arc_value command ≡ cmd)
+IsSent d p cid cmd (sent.Placed q place) = IsSubmitted d p cid cmd q place
+IsSent d p cid cmd (sent.Refused q cause command) = IsNotSubmitted d p cid q cause × (arc_value command ≡ cmd)
 
 -- ---- a take
 
@@ -77,7 +77,7 @@ IsTakenInTry d p cid (try_taken.Busy q word) = IsBackBusy d p q word
 -- ---- a claim
 
 -- The first command that may be picked is claimed: the claim is the last event of the job's pass, and the job has its work.
-pub record IsClaimed (d : DeviceName) (p : DevicePass) (j : Job) : Type 0 where
+pub record IsFirstClaimed (d : DeviceName) (p : DevicePass) (j : Job) : Type 0 where
   pub before : Trail
   pub first : Submission
   pub picked : slice_get (pickable_among d.config (world_of d.config before)) 0 ≡ Some first
@@ -86,7 +86,7 @@ pub record IsClaimed (d : DeviceName) (p : DevicePass) (j : Job) : Type 0 where
 
 -- The first command that may be picked is done at once: this is the pass's last event. It withdraws what the command names, where
 -- that still waits.
-pub record IsDone (d : DeviceName) (p q : DevicePass) : Type 0 where
+pub record IsFirstDone (d : DeviceName) (p q : DevicePass) : Type 0 where
   pub before : Trail
   pub first : Submission
   pub answer : Answer
@@ -108,14 +108,14 @@ pub record FindsRest (d : DeviceName) (p q : DevicePass) : Type 0 where
   pub none : queued_among (world_seen d q).submits ≡ []
 
 abbrev pub IsOffered : DeviceName → DevicePass → Offer → Type 0
-IsOffered d p (offer.Claimed j) = IsClaimed d p j
-IsOffered d p (offer.Did q) = IsDone d p q
+IsOffered d p (offer.Claimed j) = IsFirstClaimed d p j
+IsOffered d p (offer.Did q) = IsFirstDone d p q
 IsOffered d p (offer.Nothing q) = FindsNothing d p q
 IsOffered d p (offer.Rested q) = FindsRest d p q
 
 abbrev pub IsOfferedInTry : DeviceName → DevicePass → TryOffer → Type 0
-IsOfferedInTry d p (try_offer.Claimed j) = IsClaimed d p j
-IsOfferedInTry d p (try_offer.Did q) = IsDone d p q
+IsOfferedInTry d p (try_offer.Claimed j) = IsFirstClaimed d p j
+IsOfferedInTry d p (try_offer.Did q) = IsFirstDone d p q
 IsOfferedInTry d p (try_offer.Nothing q) = FindsNothing d p q
 IsOfferedInTry d p (try_offer.Rested q) = FindsRest d p q
 IsOfferedInTry d p (try_offer.Busy q word) = IsBackBusy d p q word

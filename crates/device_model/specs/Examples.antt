@@ -46,21 +46,21 @@ and_then outcome rest = record { answers = outcome.answer ∷ rest.answers; stat
 abbrev pub told_by : Outcome → (State → Told) → Told
 told_by outcome more = and_then outcome (more outcome.next)
 
-abbrev pub told : State → List Command → Told
-told s [] = record { answers = []; state = s }
-told s (cmd ∷ cmds) = told_by (outcome_of small s cmd) (λ next. told next cmds)
+abbrev pub told_in_turn : State → List Command → Told
+told_in_turn s [] = record { answers = []; state = s }
+told_in_turn s (cmd ∷ cmds) = told_by (outcome_of small s cmd) (λ next. told_in_turn next cmds)
 
 -- the statuses of commands on the small device, from its opening state on
 abbrev pub statuses : List Command → List Status
-statuses cmds = map (λ (answer : Answer). answer.status) (told (opening small) cmds).answers
+statuses cmds = map (λ (answer : Answer). answer.status) (told_in_turn (opening small) cmds).answers
 
 -- the results of commands on the small device
 abbrev pub results : List Command → List ℕ
-results cmds = map (λ (answer : Answer). answer.result) (told (opening small) cmds).answers
+results cmds = map (λ (answer : Answer). answer.result) (told_in_turn (opening small) cmds).answers
 
 -- len bytes from place at on of its memory, after these commands
 abbrev pub shown_after : List Command → ℕ → ℕ → List ℕ
-shown_after cmds at len = take len (drop at (bytes_of (told (opening small) cmds).state.contents (space.Mem 1)))
+shown_after cmds at len = take len (drop at (bytes_of (told_in_turn (opening small) cmds).state.contents (space.Mem 1)))
 
 -- a set of all the memory, and a program that is loaded into slot 0, made active and executed with this budget
 abbrev pub executes : List ℕ → ℕ → List Command

@@ -26,7 +26,7 @@ use Rattle.history_model.proofs.Order.{sends-in-order}
 use Rattle.history_model.proofs.Settled.{settled}
 use Rattle.history_check.specs.Beginning.{FollowsBehind, IsBeginning, MayComeNext, MayFollow, NamesNew, sents_of}
 use Rattle.history_check.specs.Readiness.{IsKept, IsReady}
-use Rattle.history_check.specs.Standing.{Awaits, AwaitsAborted, IsAccepted, IsNextRefused, IsNextTold, IsRefused, IsReplyRefused, IsReplyTold, IsTellingOf, NamesLeft, Stands, TellsAnswer, TellsNoMemory, TellsWithdrawal, is_one_of}
+use Rattle.history_check.specs.Standing.{Awaits, AwaitsAborted, FitsNoEntry, IsAccepted, IsNextRefused, IsNextTold, IsReplyRefused, IsReplyTold, IsTellingOf, NamesLeft, Stands, TellsAnswer, TellsNoMemory, TellsWithdrawal, is_named_among}
 use Rattle.history_check.specs.Table.{IsAt, sends_in}
 use Rattle.history_check.specs.declared.checker.Checker.{Checker}
 use Rattle.history_check.proofs.Continuing.{leaves-of, left-of-plan}
@@ -141,17 +141,17 @@ module _ (c : Configuration) (plan : List Phase) (entries : List Entry) (old : C
   at-table : (p : ℕ) (s : Sent) → slice_get (sends_of plan) p ≡ Some s → slice_get (sends_in old.awaiting.table) p ≡ Some s
   at-table p s at = subst (λ (ss : List Sent). slice_get ss p ≡ Some s) (sym st.sends) at
 
-  over-plan : (p : ℕ) (b : Bool) → slice_get old.awaiting.over.items p ≡ Some b → slice_get (map (is_one_of (sents_of entries)) (sends_of plan)) p ≡ Some b
+  over-plan : (p : ℕ) (b : Bool) → slice_get old.awaiting.over.items p ≡ Some b → slice_get (map (is_named_among (sents_of entries)) (sends_of plan)) p ≡ Some b
   over-plan p b is = subst (λ (bs : List Bool). slice_get bs p ≡ Some b) st.over is
 
-  over-table : (p : ℕ) (b : Bool) → slice_get (map (is_one_of (sents_of entries)) (sends_of plan)) p ≡ Some b → slice_get old.awaiting.over.items p ≡ Some b
+  over-table : (p : ℕ) (b : Bool) → slice_get (map (is_named_among (sents_of entries)) (sends_of plan)) p ≡ Some b → slice_get old.awaiting.over.items p ≡ Some b
   over-table p b is = subst (λ (bs : List Bool). slice_get bs p ≡ Some b) (sym st.over) is
 
-  ready-plan : (p : ℕ) → IsReady (sends_in old.awaiting.table) old.awaiting.over.items p → IsReady (sends_of plan) (map (is_one_of (sents_of entries)) (sends_of plan)) p
+  ready-plan : (p : ℕ) → IsReady (sends_in old.awaiting.table) old.awaiting.over.items p → IsReady (sends_of plan) (map (is_named_among (sents_of entries)) (sends_of plan)) p
   ready-plan p ready =
-      subst (λ (ss : List Sent). IsReady ss (map (is_one_of (sents_of entries)) (sends_of plan)) p) st.sends (subst (λ (bs : List Bool). IsReady (sends_in old.awaiting.table) bs p) st.over ready)
+      subst (λ (ss : List Sent). IsReady ss (map (is_named_among (sents_of entries)) (sends_of plan)) p) st.sends (subst (λ (bs : List Bool). IsReady (sends_in old.awaiting.table) bs p) st.over ready)
 
-  ready-table : (p : ℕ) → IsReady (sends_of plan) (map (is_one_of (sents_of entries)) (sends_of plan)) p → IsReady (sends_in old.awaiting.table) old.awaiting.over.items p
+  ready-table : (p : ℕ) → IsReady (sends_of plan) (map (is_named_among (sents_of entries)) (sends_of plan)) p → IsReady (sends_in old.awaiting.table) old.awaiting.over.items p
   ready-table p ready =
       subst (λ (ss : List Sent). IsReady ss old.awaiting.over.items p) (sym st.sends) (subst (λ (bs : List Bool). IsReady (sends_of plan) bs p) (sym st.over) ready)
 
@@ -166,7 +166,7 @@ module _ (c : Configuration) (plan : List Phase) (entries : List Entry) (old : C
   -- what an entry of the command at a ready place needs to come next
   record Comes (p : ℕ) (s : Sent) (answer : Answer) (next : State) : Type 0 where
     at : slice_get (sends_of plan) p ≡ Some s
-    ready : IsReady (sends_of plan) (map (is_one_of (sents_of entries)) (sends_of plan)) p
+    ready : IsReady (sends_of plan) (map (is_named_among (sents_of entries)) (sends_of plan)) p
     step : DeviceStep c (last_state c entries) s.command answer next
     follows : MayFollow entries (record { sent = s; answer = answer })
     names : HasWithdrawn (record { sent = s; answer = answer }) → NamesNew plan (entries ++ record { sent = s; answer = answer } ∷ []) s
@@ -202,7 +202,7 @@ module _ (c : Configuration) (plan : List Phase) (entries : List Entry) (old : C
         over = went.over
             ∙ (ap (λ (bs : List Bool). slice_set bs p true) st.over
             ∙ (sym (over-one-more (sends_of plan) (sents_of entries) p s (sends-in-order plan) comes.at)
-            ∙ ap (λ (ds : List Sent). map (is_one_of ds) (sends_of plan)) (sym (map-append (λ (e : Entry). e.sent) entries (entry ∷ [])))));
+            ∙ ap (λ (ds : List Sent). map (is_named_among ds) (sends_of plan)) (sym (map-append (λ (e : Entry). e.sent) entries (entry ∷ [])))));
         awaits = went.awaits;
       }
 
@@ -291,7 +291,7 @@ module _ (c : Configuration) (plan : List Phase) (entries : List Entry) (old : C
 
   -- an Abort that names a command that is not over
   names-new : (p named : ℕ) (s other : Sent) → slice_get (sends_of plan) p ≡ Some s → slice_get (sends_of plan) named ≡ Some other → Names s other
-      → slice_get (map (is_one_of (sents_of entries)) (sends_of plan)) named ≡ Some false → (answer : Answer) → NamesNew plan (entries ++ record { sent = s; answer = answer } ∷ []) s
+      → slice_get (map (is_named_among (sents_of entries)) (sends_of plan)) named ≡ Some false → (answer : Answer) → NamesNew plan (entries ++ record { sent = s; answer = answer } ∷ []) s
   names-new p named s other at there names left answer = record {
     other = other;
     sent = among-contains (sends_of plan) other (at-among (sends_of plan) named other there);

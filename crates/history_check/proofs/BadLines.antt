@@ -10,7 +10,7 @@ use Rattle.cp_text.proofs.Joined.{lacks_first}
 use Rattle.script_cmds.specs.declared.item.Phase.{Phase}
 use Rattle.script_cmds.specs.declared.item.Show.{Show}
 use Rattle.history_model.proofs.Every.{every-All, every-append, every-of-All, every-weaker}
-use Rattle.history_check.specs.FirstBad.{BeginLegally, IsEnded, IsFirstBad, IsLegalText, IsLine, lines_in}
+use Rattle.history_check.specs.FirstBad.{BeginLegally, IsEnded, IsEndedLine, IsFirstBad, IsLegalText, lines_in}
 use Rattle.history_check.proofs.Lists.{every-front}
 
 -- ---- the lines of a text
@@ -22,7 +22,7 @@ lines-cons (b ∷ front) rest plain =
     ap (λ (t : Bool). if t then (b ∷ []) ∷ lines_in (front ++ 10 ∷ rest) else onto_first b (lines_in (front ++ 10 ∷ rest))) h.0
     ∙ ap (onto_first b) (lines-cons front rest h.1)
 
-pub lines-append : (lines : List (List ℕ)) (rest : List ℕ) → AllByRecursion IsLine lines → lines_in (concat lines ++ rest) ≡ lines ++ lines_in rest
+pub lines-append : (lines : List (List ℕ)) (rest : List ℕ) → AllByRecursion IsEndedLine lines → lines_in (concat lines ++ rest) ≡ lines ++ lines_in rest
 lines-append [] rest all = refl
 lines-append (line ∷ lines) rest all =
     let text : concat (line ∷ lines) ++ rest ≡ all.0.front ++ 10 ∷ (concat lines ++ rest) =
@@ -105,12 +105,12 @@ last-ended lines rest all = (back lines (every-of-All IsEnded (lines ++ rest ∷
     back (l ∷ ls) all = back ls all.1
 
 -- a rest that no newline ends, or nothing, behind good lines
-pub bad-rest : (c : Configuration) (plan : List Phase) (shows : List Show) (lines : List (List ℕ)) (rest : List ℕ) → All IsLine lines → BeginLegally c plan shows lines → lacks 10 rest ≡ true
+pub bad-rest : (c : Configuration) (plan : List Phase) (shows : List Show) (lines : List (List ℕ)) (rest : List ℕ) → All IsEndedLine lines → BeginLegally c plan shows lines → lacks 10 rest ≡ true
     → (IsLegalText c plan shows (concat lines ++ rest) → ⊥) → IsFirstBad c plan shows (concat lines ++ rest) (length lines + 1)
 bad-rest c plan shows lines rest proper good plain illegal = by_rest (lines-rest rest plain)
   where
     all : lines_in (concat lines ++ rest) ≡ lines ++ lines_in rest
-    all = lines-append lines rest (every-of-All IsLine lines proper)
+    all = lines-append lines rest (every-of-All IsEndedLine lines proper)
 
     of : (more : List (List ℕ)) → lines_in (concat lines ++ rest) ≡ lines ++ more
         → (length lines + 1 ≤ length (lines ++ more) → BeginLegally c plan shows (take (length lines + 1) (lines ++ more)) → ⊥)
@@ -132,18 +132,18 @@ bad-rest c plan shows lines rest proper good plain illegal = by_rest (lines-rest
         let end = last-ended lines rest (subst (λ (ls : List (List ℕ)). All IsEnded ls) whole begins.ended) in
         unended rest end.front plain end.ends)
 
-ended-line : (line : List ℕ) → IsLine line → IsEnded line
+ended-line : (line : List ℕ) → IsEndedLine line → IsEnded line
 ended-line line l = record { front = l.front; ends = l.ends }
 
-pub each-ended : (lines : List (List ℕ)) → AllByRecursion IsLine lines → AllByRecursion IsEnded lines
-each-ended lines all = every-weaker IsLine IsEnded ended-line lines all
+pub each-ended : (lines : List (List ℕ)) → AllByRecursion IsEndedLine lines → AllByRecursion IsEnded lines
+each-ended lines all = every-weaker IsEndedLine IsEnded ended-line lines all
 
 -- a line behind good lines with which no legal history begins
-pub bad-line : (c : Configuration) (plan : List Phase) (shows : List Show) (lines : List (List ℕ)) (line rest : List ℕ) → All IsLine lines → BeginLegally c plan shows lines → IsLine line
+pub bad-line : (c : Configuration) (plan : List Phase) (shows : List Show) (lines : List (List ℕ)) (line rest : List ℕ) → All IsEndedLine lines → BeginLegally c plan shows lines → IsEndedLine line
     → (BeginLegally c plan shows (lines ++ line ∷ []) → ⊥) → IsFirstBad c plan shows (concat lines ++ (line ++ rest)) (length lines + 1)
 bad-line c plan shows lines line rest proper good is bad =
-    let each = every-of-All IsLine lines proper in
-    let both = every-append IsLine lines (line ∷ []) each (is, tt) in
+    let each = every-of-All IsEndedLine lines proper in
+    let both = every-append IsEndedLine lines (line ∷ []) each (is, tt) in
     let same : concat (lines ++ line ∷ []) ++ rest ≡ concat lines ++ (line ++ rest) =
     ap (λ (xs : List ℕ). xs ++ rest) (concat-append lines (line ∷ []))
     ∙ (append_assoc (concat lines) (line ++ []) rest ∙ ap (λ (xs : List ℕ). concat lines ++ (xs ++ rest)) (append-nil line)) in

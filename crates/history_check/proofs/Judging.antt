@@ -9,8 +9,8 @@ use Rattle.history_model.specs.Text.{entry_text}
 use Rattle.history_check.specs.Beginning.{MayComeNext}
 use Rattle.history_check.specs.Name.{IsNamed}
 use Rattle.history_check.specs.Readiness.{IsKept, IsReady}
-use Rattle.history_check.specs.SizedPlan.{IsSized}
-use Rattle.history_check.specs.Standing.{IsAccepted, IsNextRefused, IsNextTold, IsPlaceOf, IsRefused, Stands}
+use Rattle.history_check.specs.SizedPlan.{IsSizedPlan}
+use Rattle.history_check.specs.Standing.{FitsNoEntry, IsAccepted, IsNextRefused, IsNextTold, IsPlaceOf, Stands}
 use Rattle.history_check.specs.Table.{IsAt, sends_in}
 use Rattle.history_check.specs.declared.checker.Checker.{Checker}
 use Rattle.history_check.specs.declared.table.Table.{Table}
@@ -30,9 +30,9 @@ pub record HasLooked (old mid : Checker) : Type 0 where
   pub table : mid.awaiting.table ≡ old.awaiting.table
   pub over : mid.awaiting.over.items ≡ old.awaiting.over.items
 
-module _ (c : Configuration) (plan : List Phase) (entries : List Entry) (old : Checker) (line : List ℕ) (sized : IsSized c plan) (st : Stands c plan entries old) (few : length entries + 1 < 2 ^ 64) where
+module _ (c : Configuration) (plan : List Phase) (entries : List Entry) (old : Checker) (line : List ℕ) (sized : IsSizedPlan c plan) (st : Stands c plan entries old) (few : length entries + 1 < 2 ^ 64) where
   -- it names no command
-  pub refused-unnamed : IsPlaceIn (sends_in old.awaiting.table) line None → IsRefused c plan entries line
+  pub refused-unnamed : IsPlaceIn (sends_in old.awaiting.table) line None → FitsNoEntry c plan entries line
   refused-unnamed named next may text =
       let q = next-place c plan entries old st next may in
       named next.sent.host next.sent.ordinal (entry-named c plan entries next line sized may few text) q.0 (record { s = next.sent; at = q.1; host = refl; ordinal = refl })
@@ -47,7 +47,7 @@ module _ (c : Configuration) (plan : List Phase) (entries : List Entry) (old : C
       subst (λ (p : ℕ). slice_get (sends_in old.awaiting.table) p ≡ Some next.sent) (sym same) q.1
 
   -- it names a command that is not ready
-  pub refused-unready : (place : ℕ) → IsPlaceIn (sends_in old.awaiting.table) line (Some place) → (IsReady (sends_in old.awaiting.table) old.awaiting.over.items place → ⊥) → IsRefused c plan entries line
+  pub refused-unready : (place : ℕ) → IsPlaceIn (sends_in old.awaiting.table) line (Some place) → (IsReady (sends_in old.awaiting.table) old.awaiting.over.items place → ⊥) → FitsNoEntry c plan entries line
   refused-unready place named unready next may text = unready (next-ready c plan entries old st next place may (named-here place next named may text))
 
   looked : (mid : Checker) → HasLooked old mid → Stands c plan entries mid
@@ -55,7 +55,7 @@ module _ (c : Configuration) (plan : List Phase) (entries : List Entry) (old : C
 
   -- it tells nothing that the entry of its command can be
   pub refused-untold : (place k : ℕ) (mid : Checker) → IsPlaceIn (sends_in old.awaiting.table) line (Some place) → HasLooked old mid → k ≡ length entries + 1 → IsNextRefused mid.withdrawn mid place k line
-      → IsRefused c plan entries line
+      → FitsNoEntry c plan entries line
   refused-untold place k mid named l is none next may text =
       let here : slice_get (sends_in mid.awaiting.table) place ≡ Some next.sent = subst (λ (t : Table). slice_get (sends_in t) place ≡ Some next.sent) (sym l.table) (named-here place next named may text) in
       refuse-next c plan entries mid (looked mid l) mid.withdrawn place line next refl here may text (subst (λ (n : ℕ). IsNextRefused mid.withdrawn mid place n line) is none)

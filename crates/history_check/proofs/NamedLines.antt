@@ -16,7 +16,7 @@ use Rattle.history_model.proofs.OneHistory.{Among, every-among}
 use Rattle.history_model.proofs.Order.{ordinals-few}
 use Rattle.history_check.specs.Beginning.{MayComeNext}
 use Rattle.history_check.specs.Name.{IsNamed}
-use Rattle.history_check.specs.SizedPlan.{IsSized}
+use Rattle.history_check.specs.SizedPlan.{IsSizedPlan}
 use Rattle.history_check.proofs.Lists.{contains-among}
 use Rattle.history_check.proofs.TextLines.{entry-ends, entry_front}
 
@@ -56,7 +56,7 @@ front-named k e =
     let e8 : w7 ++ hex_text e.answer.bytes ≡ front ++ 32 ∷ p8 = behind front (32 ∷ p7) (hex_text e.answer.bytes) w7 e7 in
     (p8, e8 ∙ fields (lettered (codes "#") k) (lettered (codes "h") e.sent.host) (lettered (codes "n") e.sent.ordinal) p8)
 
-pub entry-named : (c : Configuration) (plan : List Phase) (entries : List Entry) (next : Entry) (line : List ℕ) → IsSized c plan → MayComeNext c plan entries next → length entries + 1 < 2 ^ 64
+pub entry-named : (c : Configuration) (plan : List Phase) (entries : List Entry) (next : Entry) (line : List ℕ) → IsSizedPlan c plan → MayComeNext c plan entries next → length entries + 1 < 2 ^ 64
     → entry_text (length entries + 1) next ≡ line ++ 10 ∷ [] → IsNamed line next.sent.host next.sent.ordinal
 entry-named c plan entries next line sized may few text =
     let found : Among (sends_of plan) next.sent = contains-among (sends_of plan) next.sent may.sent in

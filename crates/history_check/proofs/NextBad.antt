@@ -16,8 +16,8 @@ use Rattle.history_model.specs.Sized.{IsSizedEntry}
 use Rattle.history_model.specs.Text.{entries_text, entry_text, shows_text}
 use Rattle.history_model.proofs.Every.{every-All}
 use Rattle.history_check.specs.Beginning.{IsBeginning}
-use Rattle.history_check.specs.FirstBad.{BeginLegally, IsEnded, IsFirstBad, IsLegalText, IsLine}
-use Rattle.history_check.specs.SizedPlan.{IsSized}
+use Rattle.history_check.specs.FirstBad.{BeginLegally, IsEnded, IsEndedLine, IsFirstBad, IsLegalText}
+use Rattle.history_check.specs.SizedPlan.{IsSizedPlan}
 use Rattle.history_check.proofs.BadLines.{bad-line, bad-rest, each-ended}
 use Rattle.history_check.proofs.Continuing.{beginning-continued}
 use Rattle.history_check.proofs.TextLines.{entries-of-beginning, entry-cut, entry-ends, entry-lacks, entry_front, next-entry, next-line, text-append}
@@ -37,7 +37,7 @@ unfolding entry_lines
 lines-count k [] = refl
 lines-count k (entry ∷ entries) = let later = lines-count (k + 1) entries in omega (arith, later)
 
-pub are-lines : (k : ℕ) (entries : List Entry) → k + length entries < 2 ^ 64 → AllByRecursion IsSizedEntry entries → AllByRecursion IsLine (entry_lines k entries)
+pub are-lines : (k : ℕ) (entries : List Entry) → k + length entries < 2 ^ 64 → AllByRecursion IsSizedEntry entries → AllByRecursion IsEndedLine (entry_lines k entries)
 unfolding entry_lines
 are-lines k [] few sized = tt
 are-lines k (entry ∷ entries) few sized = (
@@ -46,7 +46,7 @@ are-lines k (entry ∷ entries) few sized = (
 )
 
 -- the text of a legal history begins with the lines of consistent entries
-begin-lines : (c : Configuration) (plan : List Phase) (shows : List Show) (entries : List Entry) → IsBeginning c plan entries → AllByRecursion IsLine (entry_lines 1 entries)
+begin-lines : (c : Configuration) (plan : List Phase) (shows : List Show) (entries : List Entry) → IsBeginning c plan entries → AllByRecursion IsEndedLine (entry_lines 1 entries)
     → BeginLegally c plan shows (entry_lines 1 entries)
 begin-lines c plan shows entries b all =
     let more = beginning-continued c plan entries b in
@@ -68,11 +68,11 @@ newline-stands (b ∷ front) rest plain = newline-stands front rest (lacks_first
 
 -- consistent entries that are not all, with the facts on their lines
 record IsShort (c : Configuration) (plan : List Phase) (entries : List Entry) : Type 0 where
-  sized : IsSized c plan
+  sized : IsSizedPlan c plan
   begins : IsBeginning c plan entries
   short : length entries < length (sends_of plan)
 
-proper : (c : Configuration) (plan : List Phase) (entries : List Entry) → IsShort c plan entries → AllByRecursion IsLine (entry_lines 1 entries)
+proper : (c : Configuration) (plan : List Phase) (entries : List Entry) → IsShort c plan entries → AllByRecursion IsEndedLine (entry_lines 1 entries)
 proper c plan entries s =
     let few = s.sized.few in
     let short = s.short in
@@ -82,7 +82,7 @@ number-of : (c : Configuration) (plan : List Phase) (shows : List Show) (entries
     → IsFirstBad c plan shows text (length entries + 1)
 number-of c plan shows entries text bad = subst (λ (n : ℕ). IsFirstBad c plan shows text (n + 1)) (lines-count 1 entries) bad
 
-pub bad-entry : (c : Configuration) (plan : List Phase) (shows : List Show) (entries : List Entry) (line rest : List ℕ) → IsSized c plan → IsBeginning c plan entries
+pub bad-entry : (c : Configuration) (plan : List Phase) (shows : List Show) (entries : List Entry) (line rest : List ℕ) → IsSizedPlan c plan → IsBeginning c plan entries
     → length entries < length (sends_of plan) → lacks 10 line ≡ true
     → ((next : Entry) → IsBeginning c plan (entries ++ next ∷ []) → entry_text (length entries + 1) next ≡ line ++ 10 ∷ [] → ⊥)
     → IsFirstBad c plan shows (entries_text 1 entries ++ (line ++ 10 ∷ rest)) (length entries + 1)
@@ -95,7 +95,7 @@ bad-entry c plan shows entries line rest sized b short plain none =
     ap (λ (xs : List ℕ). xs ++ (ended ++ rest)) (lines-text 1 entries) ∙ ap (λ (xs : List ℕ). entries_text 1 entries ++ xs) (append_assoc line (10 ∷ []) rest) in
     number-of c plan shows entries (entries_text 1 entries ++ (line ++ 10 ∷ rest))
     (subst (λ (xs : List ℕ). IsFirstBad c plan shows xs (length lines + 1)) text
-    (bad-line c plan shows lines ended rest (every-All IsLine lines all) (begin-lines c plan shows entries b all) (record { front = line; ends = refl; plain = plain }) no-more))
+    (bad-line c plan shows lines ended rest (every-All IsEndedLine lines all) (begin-lines c plan shows entries b all) (record { front = line; ends = refl; plain = plain }) no-more))
   where
     no-more : BeginLegally c plan shows (entry_lines 1 entries ++ (line ++ 10 ∷ []) ∷ []) → ⊥
     no-more more =
@@ -108,7 +108,7 @@ bad-entry c plan shows entries line rest sized b short plain none =
         let next = next-line c plan shows entries line more.rest more.history sized b short plain more.legal (more.begins ∙ same) in
         none next.0 next.1 next.2
 
-pub missing-entry : (c : Configuration) (plan : List Phase) (shows : List Show) (entries : List Entry) (rest : List ℕ) → IsSized c plan → IsBeginning c plan entries
+pub missing-entry : (c : Configuration) (plan : List Phase) (shows : List Show) (entries : List Entry) (rest : List ℕ) → IsSizedPlan c plan → IsBeginning c plan entries
     → length entries < length (sends_of plan) → lacks 10 rest ≡ true → IsFirstBad c plan shows (entries_text 1 entries ++ rest) (length entries + 1)
 missing-entry c plan shows entries rest sized b short plain =
     let s : IsShort c plan entries = record { sized = sized; begins = b; short = short } in
@@ -117,7 +117,7 @@ missing-entry c plan shows entries rest sized b short plain =
     let text : concat lines ++ rest ≡ entries_text 1 entries ++ rest = ap (λ (xs : List ℕ). xs ++ rest) (lines-text 1 entries) in
     number-of c plan shows entries (entries_text 1 entries ++ rest)
     (subst (λ (xs : List ℕ). IsFirstBad c plan shows xs (length lines + 1)) text
-    (bad-rest c plan shows lines rest (every-All IsLine lines all) (begin-lines c plan shows entries b all) plain (λ legal. no-legal (subst (λ (xs : List ℕ). IsLegalText c plan shows xs) text legal))))
+    (bad-rest c plan shows lines rest (every-All IsEndedLine lines all) (begin-lines c plan shows entries b all) plain (λ legal. no-legal (subst (λ (xs : List ℕ). IsLegalText c plan shows xs) text legal))))
   where
     no-legal : IsLegalText c plan shows (entries_text 1 entries ++ rest) → ⊥
     no-legal legal =

@@ -15,8 +15,8 @@ use Rattle.history_model.specs.Text.{entries_text, entry_text, shown_text, shows
 use Rattle.history_check.specs.Beginning.{IsBeginning}
 use Rattle.history_check.specs.FirstBad.{IsFirstBad, IsLegalText}
 use Rattle.history_check.specs.Reading.{BeginsWithEntries, BreaksAtShow, MissesLine}
-use Rattle.history_check.specs.SizedPlan.{IsSized}
-use Rattle.history_check.specs.Standing.{IsAccepted, IsRefused, Stands}
+use Rattle.history_check.specs.SizedPlan.{IsSizedPlan}
+use Rattle.history_check.specs.Standing.{FitsNoEntry, IsAccepted, Stands}
 use Rattle.history_check.specs.Verdict.{IsShown}
 use Rattle.history_check.specs.declared.checker.Checker.{Checker}
 use Rattle.seq_device.specs.Standing.{Standing}
@@ -32,7 +32,7 @@ use Rattle.history_check.proofs.TextLines.{text-append}
 pub none-read : (c : Configuration) (plan : List Phase) (text : List ℕ) (checker : Checker) → Stands c plan [] checker → BeginsWithEntries c plan text text 0 checker
 none-read c plan text checker stands = record { entries = []; stands = stands; number = refl; is = refl }
 
-module _ (c : Configuration) (plan : List Phase) (text rest : List ℕ) (count : ℕ) (checker : Checker) (b : BeginsWithEntries c plan text rest count checker) (sized : IsSized c plan) where
+module _ (c : Configuration) (plan : List Phase) (text rest : List ℕ) (count : ℕ) (checker : Checker) (b : BeginsWithEntries c plan text rest count checker) (sized : IsSizedPlan c plan) where
   numbered : (shows : List Show) (other : List ℕ) (line : ℕ) → text ≡ other → line ≡ count + 1 → IsFirstBad c plan shows other (length b.entries + 1) → IsFirstBad c plan shows text line
   numbered shows other line is number bad =
       let same : length b.entries + 1 ≡ line = let n = b.number in omega (arith, n, number) in
@@ -47,7 +47,7 @@ module _ (c : Configuration) (plan : List Phase) (text rest : List ℕ) (count :
       numbered shows (entries_text 1 b.entries ++ rest) line b.is number (missing-entry c plan shows b.entries rest sized b.stands.begins (short-of short) plain)
 
   -- the next line is that of no entry that may come next
-  pub line-refused : (front behind : List ℕ) (line : ℕ) → count < length (sends_of plan) → line ≡ count + 1 → rest ≡ front ++ 10 ∷ behind → lacks 10 front ≡ true → IsRefused c plan b.entries front
+  pub line-refused : (front behind : List ℕ) (line : ℕ) → count < length (sends_of plan) → line ≡ count + 1 → rest ≡ front ++ 10 ∷ behind → lacks 10 front ≡ true → FitsNoEntry c plan b.entries front
       → (shows : List Show) → IsFirstBad c plan shows text line
   line-refused front behind line short number cut plain refused shows =
       numbered shows (entries_text 1 b.entries ++ (front ++ 10 ∷ behind)) line (b.is ∙ ap (λ (xs : List ℕ). entries_text 1 b.entries ++ xs) cut) number
@@ -112,7 +112,7 @@ module _ (contents : Contents) (shows : List Show) (first : ℕ) (text rest : Li
 
 -- ---- the verdict
 
-module _ (c : Configuration) (plan : List Phase) (shows : List Show) (text behind : List ℕ) (checker : Checker) (b : BeginsWithEntries c plan text behind (length (sends_of plan)) checker) (sized : IsSized c plan)
+module _ (c : Configuration) (plan : List Phase) (shows : List Show) (text behind : List ℕ) (checker : Checker) (b : BeginsWithEntries c plan text behind (length (sends_of plan)) checker) (sized : IsSizedPlan c plan)
     (few : length (sends_of plan) + 1 < 2 ^ 64) (shown : All (IsShown c) shows) where
   legal : IsLegal c plan b.entries
   legal = all-entries c plan b.entries b.stands.begins b.number

@@ -13,22 +13,22 @@ use Rattle.script_plan.proofs.SizedSends.{budget_few, sends_sized}
 use Rattle.history_model.specs.Sent.{Sent, sends_of}
 use Rattle.history_model.specs.Sized.{IsSizedSend}
 use Rattle.history_model.proofs.Every.{every-All, every-of-All}
-use Rattle.history_check.specs.SizedPlan.{IsSized}
-use Rattle.history_check.specs.Verdict.{AreShown, IsInside, IsShown}
+use Rattle.history_check.specs.SizedPlan.{IsSizedPlan}
+use Rattle.history_check.specs.Verdict.{AreShown, IsShowInside, IsShown}
 use Rattle.history_check.proofs.Lists.{every-back}
 
-pub plan-sized : (script : Script) (plan : List Phase) → AreSized (lines_of script) → KeepsOrderAndLimits script → sends_of plan ≡ sends_of script.phases → length (sends_of plan) < 2 ^ 64 → IsSized script.config plan
+pub plan-sized : (script : Script) (plan : List Phase) → AreSized (lines_of script) → KeepsOrderAndLimits script → sends_of plan ≡ sends_of script.phases → length (sends_of plan) < 2 ^ 64 → IsSizedPlan script.config plan
 plan-sized script plan sized kept same few = record {
   budget = budget_few script sized kept;
   few = few;
   sends = subst (λ (ss : List Sent). All IsSizedSend ss) (sym same) (every-All IsSizedSend (sends_of script.phases) (sends_sized script sized kept));
 }
 
-pub shows-sized : (script : Script) → AreSized (lines_of script) → All (IsInside script.config) script.shows → AreShown script.config script.shows
+pub shows-sized : (script : Script) → AreSized (lines_of script) → All (IsShowInside script.config) script.shows → AreShown script.config script.shows
 shows-sized script sized inside =
     every-All (IsShown script.config) script.shows
-    (each script.shows (every-back IsSizedLine (configuration_lines script.form script.config ++ phase_lines script.form script.phases) (show_lines script.shows) (every-of-All IsSizedLine (lines_of script) sized)) (every-of-All (IsInside script.config) script.shows inside))
+    (each script.shows (every-back IsSizedLine (configuration_lines script.form script.config ++ phase_lines script.form script.phases) (show_lines script.shows) (every-of-All IsSizedLine (lines_of script) sized)) (every-of-All (IsShowInside script.config) script.shows inside))
   where
-    each : (shows : List Show) → AllByRecursion IsSizedLine (show_lines shows) → AllByRecursion (IsInside script.config) shows → AllByRecursion (IsShown script.config) shows
+    each : (shows : List Show) → AllByRecursion IsSizedLine (show_lines shows) → AllByRecursion (IsShowInside script.config) shows → AllByRecursion (IsShown script.config) shows
     each [] lines all = tt
     each (show ∷ shows) lines all = (record { sized = lines.0; inside = all.0 }, each shows lines.1 all.1)

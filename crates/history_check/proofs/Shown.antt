@@ -31,9 +31,9 @@ use Rattle.history_model.specs.Sized.{IsSizedSend}
 use Rattle.history_model.specs.Text.{entries_text, history_text, shown_text, shows_text}
 use Rattle.history_model.proofs.Every.{every-All, every-append, every-of-All, every-weaker}
 use Rattle.history_model.proofs.OneHistory.{Among, every-among}
-use Rattle.history_check.specs.FirstBad.{BeginLegally, IsEnded, IsFirstBad, IsLegalText, IsLine}
+use Rattle.history_check.specs.FirstBad.{BeginLegally, IsEnded, IsEndedLine, IsFirstBad, IsLegalText}
 use Rattle.history_check.specs.Reading.{BreaksAtShow, MissesLine}
-use Rattle.history_check.specs.SizedPlan.{IsSized}
+use Rattle.history_check.specs.SizedPlan.{IsSizedPlan}
 use Rattle.history_check.specs.Verdict.{IsShown}
 use Rattle.history_check.proofs.BadLines.{bad-line, bad-rest, each-ended}
 use Rattle.history_check.proofs.Lists.{every-back, every-front}
@@ -57,7 +57,7 @@ shown-lacks show bytes sized held =
     let at1 : lacks 10 line ≡ true = line_lacks (show_line show) (record { shape = shown-shape show.range.space show.range.start show.range.len; sized = sized }) in
     lacks_both 10 (line ++ codes " d=") (hex_text bytes) (lacks_both 10 line (codes " d=") at1 refl) (hex_lacks 10 bytes (inl (omega arith)) held)
 
-pub shown-is-line : (show : Show) (bytes : List ℕ) → IsSizedLine (show_line show) → AreBytes bytes → IsLine (shown_text show bytes)
+pub shown-is-line : (show : Show) (bytes : List ℕ) → IsSizedLine (show_line show) → AreBytes bytes → IsEndedLine (shown_text show bytes)
 shown-is-line show bytes sized held = record { front = shown_front show bytes; ends = refl; plain = shown-lacks show bytes sized held }
 
 -- ---- the bytes of the last state
@@ -68,7 +68,7 @@ replays-sized c s [] budget sized all replays = sized
 replays-sized c s (e ∷ entries) budget sized all replays =
     replays-sized c (after_entry c s e) entries budget (step_sized c s e.sent.command e.answer (after_entry c s e) budget sized all.0 replays.0).next all.1 replays.1
 
-pub last-sized : (c : Configuration) (plan : List Phase) (entries : List Entry) → IsSized c plan → IsLegal c plan entries → IsSizedState (last_state c entries)
+pub last-sized : (c : Configuration) (plan : List Phase) (entries : List Entry) → IsSizedPlan c plan → IsLegal c plan entries → IsSizedState (last_state c entries)
 last-sized c plan entries sized legal =
     replays-sized c (opening c) entries sized.budget (opening_sized c)
     (every-weaker (λ (e : Entry). Among (sends_of plan) e.sent) (λ (e : Entry). IsSizedCommand e.sent.command)
@@ -90,7 +90,7 @@ shows-count : (contents : Contents) (shows : List Show) → length (show_lines c
 shows-count contents [] = refl
 shows-count contents (show ∷ shows) = let e = shows-count contents shows in omega (arith, e)
 
-shows-lines : (c : Configuration) (s : State) (shows : List Show) → IsSizedState s → AllByRecursion (IsShown c) shows → AllByRecursion IsLine (show_lines s.contents shows)
+shows-lines : (c : Configuration) (s : State) (shows : List Show) → IsSizedState s → AllByRecursion (IsShown c) shows → AllByRecursion IsEndedLine (show_lines s.contents shows)
 shows-lines c s [] sized all = tt
 shows-lines c s (show ∷ shows) sized all = (shown-is-line show (bytes_in s.contents show.range) all.0.sized (shown-bytes s show sized), shows-lines c s shows sized all.1)
 
@@ -113,7 +113,7 @@ first-newline (b ∷ text) = by_test (b == 10) refl (first-newline text)
 
 -- ---- behind the entries of a legal history
 
-module _ (c : Configuration) (plan : List Phase) (shows : List Show) (entries : List Entry) (sized : IsSized c plan) (legal : IsLegal c plan entries) (few : length entries + 1 < 2 ^ 64)
+module _ (c : Configuration) (plan : List Phase) (shows : List Show) (entries : List Entry) (sized : IsSizedPlan c plan) (legal : IsLegal c plan entries) (few : length entries + 1 < 2 ^ 64)
     (shown : All (IsShown c) shows) where
   abbrev contents : Contents
   contents = (last_state c entries).contents
@@ -133,9 +133,9 @@ module _ (c : Configuration) (plan : List Phase) (shows : List Show) (entries : 
       let d = shows-count contents done in
       omega (arith, a, b, d)
 
-  proper : (done more : List Show) → shows ≡ done ++ more → AllByRecursion IsLine (lines done)
+  proper : (done more : List Show) → shows ≡ done ++ more → AllByRecursion IsEndedLine (lines done)
   proper done more is =
-      every-append IsLine (entry_lines 1 entries) (show_lines contents done) (are-lines 1 entries (omega (arith, few)) (entries-of-legal c plan entries sized legal).sized)
+      every-append IsEndedLine (entry_lines 1 entries) (show_lines contents done) (are-lines 1 entries (omega (arith, few)) (entries-of-legal c plan entries sized legal).sized)
       (shows-lines c (last_state c entries) done (last-sized c plan entries sized legal)
       (every-front (IsShown c) done more (every-of-All (IsShown c) (done ++ more) (subst (λ (ss : List Show). All (IsShown c) ss) is shown))))
 
@@ -165,14 +165,14 @@ module _ (c : Configuration) (plan : List Phase) (shows : List Show) (entries : 
   -- a rest without a newline that is not what is shown
   rest-bad : (done more : List Show) (rest : List ℕ) → shows ≡ done ++ more → lacks 10 rest ≡ true → (shows_text contents more ≡ rest → ⊥) → IsFirstBad c plan shows (concat (lines done) ++ rest) (length (lines done) + 1)
   rest-bad done more rest is plain other =
-      bad-rest c plan shows (lines done) rest (every-All IsLine (lines done) (proper done more is)) (good done more is) plain (λ l. other (tail-is done more is l.history rest l.legal l.is))
+      bad-rest c plan shows (lines done) rest (every-All IsEndedLine (lines done) (proper done more is)) (good done more is) plain (λ l. other (tail-is done more is l.history rest l.legal l.is))
 
   -- a line that is not that of the next show
   line-bad : (done more : List Show) (front behind : List ℕ) → shows ≡ done ++ more → lacks 10 front ≡ true → ((y : List ℕ) → shows_text contents more ≡ front ++ 10 ∷ y → ⊥)
       → IsFirstBad c plan shows (concat (lines done) ++ (front ++ 10 ∷ behind)) (length (lines done) + 1)
   line-bad done more front behind is plain other =
       subst (λ (xs : List ℕ). IsFirstBad c plan shows (concat (lines done) ++ xs) (length (lines done) + 1)) (append_assoc front (10 ∷ []) behind)
-      (bad-line c plan shows (lines done) (front ++ 10 ∷ []) behind (every-All IsLine (lines done) (proper done more is)) (good done more is) (record { front = front; ends = refl; plain = plain })
+      (bad-line c plan shows (lines done) (front ++ 10 ∷ []) behind (every-All IsEndedLine (lines done) (proper done more is)) (good done more is) (record { front = front; ends = refl; plain = plain })
       (λ b. other b.rest (tail-is done more is b.history (front ++ 10 ∷ b.rest) b.legal (b.begins ∙ joined b.rest))))
     where
       joined : (y : List ℕ) → concat (lines done ++ (front ++ 10 ∷ []) ∷ []) ++ y ≡ concat (lines done) ++ (front ++ 10 ∷ y)

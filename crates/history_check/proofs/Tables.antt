@@ -17,7 +17,7 @@ use Rattle.script_cmds.specs.declared.item.HostPart.{HostPart}
 use Rattle.script_cmds.specs.declared.item.Phase.{Phase}
 use Rattle.history_model.specs.Sent.{Sent, Waiting, named_in, next_ordinal, ordinals_of, sends_of_items, sends_of_parts, sends_of_phases}
 use Rattle.history_model.proofs.Every.{every-All, every-append, every-of-All, every-weaker}
-use Rattle.history_check.specs.Table.{GoesOn, HasCounts, HasPlaces, IsAt, IsTable, going_on, pair_cmp, sends_by, sends_in, sent_in, waiting, waiting_of}
+use Rattle.history_check.specs.Table.{HasCounts, HasGoneOn, HasPlaces, IsAt, IsTable, going_on, pair_cmp, sends_by, sends_in, sent_in, waiting, waiting_of}
 use Rattle.history_check.specs.declared.table.Awaited.{Awaited}
 use Rattle.history_check.specs.declared.table.Outstanding.{Outstanding}
 use Rattle.history_check.specs.declared.table.Sender.{Sender}
@@ -247,7 +247,7 @@ added-sent sends sender takes cid shared a is =
 
 pub went-send : (t t' : Table) (sender sender' : Sender) (cid : ℕ) (shared : Arc Command Global) (a : Awaited) → IsAdded (sends_in t) sender t.takes.items cid shared a
     → sends_in t' ≡ sends_in t ++ sent_in t.takes.items a ∷ [] → t'.takes.items ≡ t.takes.items → sender'.host ≡ sender.host → sender'.phase ≡ sender.phase → sender'.begin ≡ sender.begin
-    → sender'.outstanding.items ≡ sender.outstanding.items ++ record { cid = cid; ordinal = a.ordinal } ∷ [] → sender.begin ≤ length t.takes.items → GoesOn t sender (item.Send cid shared) t' sender'
+    → sender'.outstanding.items ≡ sender.outstanding.items ++ record { cid = cid; ordinal = a.ordinal } ∷ [] → sender.begin ≤ length t.takes.items → HasGoneOn t sender (item.Send cid shared) t' sender'
 went-send t t' sender sender' cid shared a is sends takes host phase begin outstanding begun = record {
   host = host;
   phase = phase;
@@ -272,7 +272,7 @@ went-send t t' sender sender' cid shared a is sends takes host phase begin outst
 
 pub went-take : (t t' : Table) (sender sender' : Sender) (cid : ℕ) → sends_in t' ≡ sends_in t → t'.takes.items ≡ t.takes.items ++ ordinals_of cid (waiting_of sender.outstanding.items)
     → sender'.host ≡ sender.host → sender'.phase ≡ sender.phase → sender'.begin ≡ sender.begin → sender'.outstanding.items ≡ filter (λ (o : Outstanding). not (o.cid == cid)) sender.outstanding.items
-    → sender.begin ≤ length t.takes.items → GoesOn t sender (item.Take cid) t' sender'
+    → sender.begin ≤ length t.takes.items → HasGoneOn t sender (item.Take cid) t' sender'
 went-take t t' sender sender' cid sends takes host phase begin outstanding begun = record {
   host = host;
   phase = phase;

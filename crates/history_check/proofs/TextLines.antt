@@ -26,7 +26,7 @@ use Rattle.history_model.proofs.OneHistory.{Among, each-among, line-tells, same-
 use Rattle.history_model.proofs.Order.{Precedes, sends-in-order}
 use Rattle.history_model.proofs.SizedHistories.{history_sized}
 use Rattle.history_check.specs.Beginning.{IsBeginning, sents_of}
-use Rattle.history_check.specs.SizedPlan.{IsSized}
+use Rattle.history_check.specs.SizedPlan.{IsSizedPlan}
 use Rattle.history_check.proofs.Continuing.{beginning-continued}
 use Rattle.history_check.proofs.Fronts.{front-of-legal}
 use Rattle.history_check.proofs.Lists.{every-back, every-front}
@@ -36,7 +36,7 @@ pub record AreEntries (sends : List Sent) (entries : List Entry) : Type 0 where
   pub among : AllByRecursion (λ (e : Entry). Among sends e.sent) entries
   pub sized : AllByRecursion IsSizedEntry entries
 
-pub entries-of-legal : (c : Configuration) (plan : List Phase) (history : List Entry) → IsSized c plan → IsLegal c plan history → AreEntries (sends_of plan) history
+pub entries-of-legal : (c : Configuration) (plan : List Phase) (history : List Entry) → IsSizedPlan c plan → IsLegal c plan history → AreEntries (sends_of plan) history
 entries-of-legal c plan history sized legal = record {
   among = each-among (sents_of history) (sends_of plan) history legal.each_once (All-contains_itself (sents_of history));
   sized = every-of-All IsSizedEntry history (history_sized c plan history sized.budget sized.few sized.sends legal);
@@ -48,7 +48,7 @@ front-entries sends entries more all = record {
   sized = every-front IsSizedEntry entries more all.sized;
 }
 
-pub entries-of-beginning : (c : Configuration) (plan : List Phase) (entries : List Entry) → IsSized c plan → IsBeginning c plan entries → AreEntries (sends_of plan) entries
+pub entries-of-beginning : (c : Configuration) (plan : List Phase) (entries : List Entry) → IsSizedPlan c plan → IsBeginning c plan entries → AreEntries (sends_of plan) entries
 entries-of-beginning c plan entries sized b =
     let more = beginning-continued c plan entries b in
     front-entries (sends_of plan) entries more.0 (entries-of-legal c plan (entries ++ more.0) sized more.1)
@@ -164,7 +164,7 @@ pub record NextEntry (c : Configuration) (plan : List Phase) (entries : List Ent
   pub rest : List ℕ
   pub text : entry_text (length entries + 1) next ++ rest ≡ behind
 
-pub next-entry : (c : Configuration) (plan : List Phase) (shows : List Show) (entries : List Entry) (behind : List ℕ) (history : List Entry) → IsSized c plan → IsBeginning c plan entries
+pub next-entry : (c : Configuration) (plan : List Phase) (shows : List Show) (entries : List Entry) (behind : List ℕ) (history : List Entry) → IsSizedPlan c plan → IsBeginning c plan entries
     → length entries < length (sends_of plan) → IsLegal c plan history → history_text c shows history ≡ entries_text 1 entries ++ behind → NextEntry c plan entries behind
 next-entry c plan shows entries behind history sized b short legal same =
     let whole = entries-of-legal c plan history sized legal in
@@ -203,7 +203,7 @@ pub entry-cut : (k : ℕ) (e : Entry) (rest : List ℕ) → entry_text k e ++ re
 entry-cut k e rest = ap (λ (xs : List ℕ). xs ++ rest) (entry-ends k e) ∙ append_assoc (entry_front k e) (10 ∷ []) rest
 
 -- the line of the entry that a legal history has behind these
-pub next-line : (c : Configuration) (plan : List Phase) (shows : List Show) (entries : List Entry) (front rest : List ℕ) (history : List Entry) → IsSized c plan → IsBeginning c plan entries
+pub next-line : (c : Configuration) (plan : List Phase) (shows : List Show) (entries : List Entry) (front rest : List ℕ) (history : List Entry) → IsSizedPlan c plan → IsBeginning c plan entries
     → length entries < length (sends_of plan) → lacks 10 front ≡ true → IsLegal c plan history → history_text c shows history ≡ entries_text 1 entries ++ (front ++ 10 ∷ rest)
     → (next : Entry) × IsBeginning c plan (entries ++ next ∷ []) × (entry_text (length entries + 1) next ≡ front ++ 10 ∷ [])
 next-line c plan shows entries front rest history sized b short plain legal same =
@@ -214,7 +214,7 @@ next-line c plan shows entries front rest history sized b short plain legal same
     (n.next, n.begins, entry-ends (length entries + 1) n.next ∙ ap (λ (xs : List ℕ). xs ++ 10 ∷ []) cut.0)
 
 -- a history that is legal is the one whose text begins with its entries
-pub whole-history : (c : Configuration) (plan : List Phase) (shows : List Show) (one other : List Entry) (rest : List ℕ) → IsSized c plan → IsLegal c plan one → IsLegal c plan other
+pub whole-history : (c : Configuration) (plan : List Phase) (shows : List Show) (one other : List Entry) (rest : List ℕ) → IsSizedPlan c plan → IsLegal c plan one → IsLegal c plan other
     → history_text c shows other ≡ entries_text 1 one ++ rest → other ≡ one
 whole-history c plan shows one other rest sized p q same =
     let a = legal-length c plan one p in

@@ -20,7 +20,7 @@ pub record IsEnded (line : List ℕ) : Type 0 where
   pub ends : line ≡ front ++ 10 ∷ []
 
 -- a newline ends the line, and none stands before
-pub record IsLine (line : List ℕ) : Type 0 where
+pub record IsEndedLine (line : List ℕ) : Type 0 where
   pub front : List ℕ
   pub ends : line ≡ front ++ 10 ∷ []
   pub plain : lacks 10 front ≡ true

@@ -7,7 +7,7 @@ use Rattle.history_model.specs.Sent.{sends_of}
 use Rattle.history_model.specs.Sized.{IsSizedSend}
 
 -- the numbers of a plan's commands have 64 bits and their data are bytes, and so does what counts them
-pub record IsSized (c : Configuration) (plan : List Phase) : Type 0 where
+pub record IsSizedPlan (c : Configuration) (plan : List Phase) : Type 0 where
   pub budget : c.budget ≤ MAX_BUDGET
   pub few : length (sends_of plan) < 2 ^ 64
   pub sends : All IsSizedSend (sends_of plan)

@@ -18,8 +18,8 @@ use Rattle.history_check.specs.declared.awaiting.Awaiting.{Awaiting}
 use Rattle.history_check.specs.declared.checker.Checker.{Checker}
 
 -- whether a command is one of these, by its name
-abbrev pub is_one_of : List Sent → Sent → Bool
-is_one_of done s = list_any (λ (d : Sent). (s.host == d.host) && (s.ordinal == d.ordinal)) done
+abbrev pub is_named_among : List Sent → Sent → Bool
+is_named_among done s = list_any (λ (d : Sent). (s.host == d.host) && (s.ordinal == d.ordinal)) done
 
 -- the last entry is that of an Abort that has withdrawn the command at a place
 pub record AwaitsAborted (sends : List Sent) (entries : List Entry) (place : ℕ) : Type 0 where
@@ -42,7 +42,7 @@ pub record Stands (c : Configuration) (plan : List Phase) (entries : List Entry)
   pub device : checker.device ≡ record { config = c; state = last_state c entries }
   pub kept : IsKept checker.awaiting
   pub sends : sends_in checker.awaiting.table ≡ sends_of plan
-  pub over : checker.awaiting.over.items ≡ map (is_one_of (sents_of entries)) (sends_of plan)
+  pub over : checker.awaiting.over.items ≡ map (is_named_among (sents_of entries)) (sends_of plan)
   pub awaits : Awaits (sends_of plan) entries checker.withdrawn
 
 -- line k is that of an entry of the command at a place with this answer
@@ -115,13 +115,13 @@ pub record IsAccepted (c : Configuration) (plan : List Phase) (entries : List En
   pub stands : Stands c plan (entries ++ next ∷ []) checker
 
 -- the line is that of no entry that may come next
-abbrev pub IsRefused : Configuration → List Phase → List Entry → List ℕ → Type 0
-IsRefused c plan entries line = (next : Entry) → MayComeNext c plan entries next → entry_text (length entries + 1) next ≡ line ++ 10 ∷ [] → ⊥
+abbrev pub FitsNoEntry : Configuration → List Phase → List Entry → List ℕ → Type 0
+FitsNoEntry c plan entries line = (next : Entry) → MayComeNext c plan entries next → entry_text (length entries + 1) next ≡ line ++ 10 ∷ [] → ⊥
 
 -- what the checker says of a line
 abbrev pub Judges : Configuration → List Phase → List Entry → List ℕ → Checker → Bool → Type 0
 Judges c plan entries line checker true = IsAccepted c plan entries line checker
-Judges c plan entries line checker false = IsRefused c plan entries line
+Judges c plan entries line checker false = FitsNoEntry c plan entries line
 
 -- the place of a host's command of this ordinal, where there is one
 abbrev pub IsPlaceOf : List Sent → ℕ → ℕ → Option ℕ → Type 0

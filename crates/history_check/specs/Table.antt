@@ -69,7 +69,7 @@ is_sent (item.Send cid command) = 1
 is_sent (item.Take cid) = 0
 
 -- a host has gone one item on
-pub record GoesOn (table : Table) (sender : Sender) (it : Item) (table' : Table) (sender' : Sender) : Type 0 where
+pub record HasGoneOn (table : Table) (sender : Sender) (it : Item) (table' : Table) (sender' : Sender) : Type 0 where
   pub host : sender'.host ≡ sender.host
   pub phase : sender'.phase ≡ sender.phase
   pub begin : sender'.begin ≡ sender.begin

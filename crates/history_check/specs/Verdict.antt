@@ -15,13 +15,13 @@ Says c plan shows text verdict.Legal = IsLegalText c plan shows text
 Says c plan shows text (verdict.Breaks line) = IsFirstBad c plan shows text line
 
 -- a show lies inside a namespace
-abbrev pub IsInside : Configuration → Show → Type 0
-IsInside c show = show.range.start + show.range.len ≤ unwrap_or (size_of c show.range.space) 0
+abbrev pub IsShowInside : Configuration → Show → Type 0
+IsShowInside c show = show.range.start + show.range.len ≤ unwrap_or (size_of c show.range.space) 0
 
 -- a show has numbers of 64 bits and lies inside a namespace
 pub record IsShown (c : Configuration) (show : Show) : Type 0 where
   pub sized : IsSizedLine (show_line show)
-  pub inside : IsInside c show
+  pub inside : IsShowInside c show
 
 abbrev pub AreShown : Configuration → List Show → Type 0
 AreShown c shows = All (IsShown c) shows

@@ -9,7 +9,7 @@ ghost use Rattle.history_model.specs.Sent.{sends_of};
 ghost use Rattle.history_model.specs.Text.{line_of_entry, shown_text};
 ghost use Rattle.history_check.specs.Name.{IsNamed};
 ghost use Rattle.history_check.specs.Readiness.{IsKept};
-ghost use Rattle.history_check.specs.SizedPlan.{IsSized};
+ghost use Rattle.history_check.specs.SizedPlan.{IsSizedPlan};
 ghost use Rattle.history_check.specs.Standing.{IsNextRefused, IsNextTold, IsPlaceOf, IsReplyRefused, IsReplyTold, IsTellingOf, Judges, NamesLeft, Stands, TellsAnswer, TellsNoMemory, TellsWithdrawal};
 ghost use Rattle.history_check.specs.Table.{sends_in};
 ghost use Rattle.seq_device.specs.Standing.{Standing};
@@ -240,7 +240,7 @@ impl Checker {
     /// Whether line `k` is that of an entry with which a legal history goes on. Then its command is over.
     pub fn accepts(&mut self, k: u32, line: &[u8]) -> Result<bool, NoMemory>
         requires { IsKept self.old.awaiting }
-        ensures { (c : _) (plan : _) (entries : List Entry) → IsSized c plan → Stands c plan entries self.old → k ≡ length entries + 1
+        ensures { (c : _) (plan : _) (entries : List Entry) → IsSizedPlan c plan → Stands c plan entries self.old → k ≡ length entries + 1
             → IfOk result (λ accepted. Judges c plan entries line.now self.new accepted) }
     {
         let Some(place) = self.place_in(line) else {

@@ -2,7 +2,7 @@
 ghost use Rattle.std.specs.Prelude.{◌≡◌, ◌+◌, ◌<◌, ◌^◌, [], IfOk, length};
 ghost use Rattle.history_model.specs.Sent.{sends_of};
 ghost use Rattle.history_check.specs.Reading.{HasReadEntries, HasReadShows};
-ghost use Rattle.history_check.specs.SizedPlan.{IsSized};
+ghost use Rattle.history_check.specs.SizedPlan.{IsSizedPlan};
 ghost use Rattle.history_check.specs.Standing.{Stands};
 ghost use Rattle.history_check.specs.Verdict.{AreShown, Says};
 
@@ -37,7 +37,7 @@ fn read_entries<'a>(
 ) -> Result<Reading<'a>, NoMemory>
     requires commands { plan.now.commands ≡ length (sends_of plan.now.phases) }
     requires few { plan.now.commands + 1 < 2 ^ 32 }
-    requires sized { IsSized checker.old.device.config plan.now.phases }
+    requires sized { IsSizedPlan checker.old.device.config plan.now.phases }
     requires stands { Stands checker.old.device.config plan.now.phases [] checker.old }
     ensures { IfOk result (HasReadEntries checker.old.device.config plan.now.phases history.now checker.new) }
 {
@@ -98,7 +98,7 @@ pub fn check(
 ) -> Result<Verdict, NoMemory>
     requires commands { plan.now.commands ≡ length (sends_of plan.now.phases) }
     requires few { plan.now.commands + 1 + length shows.now < 2 ^ 32 }
-    requires sized { IsSized config.now plan.now.phases }
+    requires sized { IsSizedPlan config.now plan.now.phases }
     requires shown { AreShown config.now shows.now }
     ensures { IfOk result (Says config.now plan.now.phases shows.now history.now) }
 {

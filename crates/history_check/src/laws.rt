@@ -13,21 +13,21 @@ ghost use Rattle.history_model.specs.Sent.{sends_of};
 ghost use Rattle.history_model.specs.Text.{entries_text, entry_text, history_text, shown_text};
 ghost use Rattle.cp_text.specs.Parts.{lacks};
 ghost use Rattle.history_check.specs.Beginning.{IsBeginning, MayComeNext};
-ghost use Rattle.history_check.specs.FirstBad.{BeginLegally, IsFirstBad, IsLegalText, IsLine};
-ghost use Rattle.history_check.specs.SizedPlan.{IsSized};
-ghost use Rattle.history_check.specs.Verdict.{AreShown, IsInside};
+ghost use Rattle.history_check.specs.FirstBad.{BeginLegally, IsEndedLine, IsFirstBad, IsLegalText};
+ghost use Rattle.history_check.specs.SizedPlan.{IsSizedPlan};
+ghost use Rattle.history_check.specs.Verdict.{AreShown, IsShowInside};
 
 /// What is read of a script can be checked: its numbers have 64 bits and its data are bytes, and its shows that
 /// lie inside their namespaces do so as well.
 pub fn scripts_can_be_checked()
     ensures plan { (script : Script) (plan : _) → AreSized (lines_of script) → KeepsOrderAndLimits script → sends_of plan ≡ sends_of script.phases
-        → length (sends_of plan) < 2 ^ 64 → IsSized script.config plan }
-    ensures shows { (script : Script) → AreSized (lines_of script) → All (IsInside script.config) script.shows → AreShown script.config script.shows }
+        → length (sends_of plan) < 2 ^ 64 → IsSizedPlan script.config plan }
+    ensures shows { (script : Script) → AreSized (lines_of script) → All (IsShowInside script.config) script.shows → AreShown script.config script.shows }
 {}
 
 /// The line of a show is a line: one newline ends it, and none stands before.
 pub fn shown_lines_are_lines()
-    ensures { (show : Show) (bytes : List ℕ) → IsSizedLine (show_line show) → AreBytes bytes → IsLine (shown_text show bytes) }
+    ensures { (show : Show) (bytes : List ℕ) → IsSizedLine (show_line show) → AreBytes bytes → IsEndedLine (shown_text show bytes) }
 {}
 
 /// Entries begin a legal history of a plan exactly where they are consistent with it: whatever a device has
@@ -52,21 +52,21 @@ pub fn entries_come_one_by_one()
 /// only one whose text begins with its entries, so its shows are fixed by them.
 pub fn lines_are_entries()
     ensures next { (c : _) (plan : _) (shows : _) (entries : List Entry) (line rest : List ℕ) (history : List Entry)
-        → IsSized c plan → IsBeginning c plan entries → length entries < length (sends_of plan) → lacks 10 line ≡ true → IsLegal c plan history
+        → IsSizedPlan c plan → IsBeginning c plan entries → length entries < length (sends_of plan) → lacks 10 line ≡ true → IsLegal c plan history
         → history_text c shows history ≡ entries_text 1 entries ++ (line ++ 10 ∷ rest)
         → (next : Entry) × IsBeginning c plan (entries ++ next ∷ []) × (entry_text (length entries + 1) next ≡ line ++ 10 ∷ []) }
     ensures whole { (c : _) (plan : _) (shows : _) (one other : List Entry) (rest : List ℕ)
-        → IsSized c plan → IsLegal c plan one → IsLegal c plan other → history_text c shows other ≡ entries_text 1 one ++ rest → other ≡ one }
+        → IsSizedPlan c plan → IsLegal c plan one → IsLegal c plan other → history_text c shows other ≡ entries_text 1 one ++ rest → other ≡ one }
 {}
 
 /// Behind lines with which the text of a legal history begins, the first bad line is the next one where it is a
 /// line with which none goes on, or none at all or a rest that no newline ends and the text is none of a legal history.
 pub fn bad_line_stands_behind_good_ones()
     ensures line { (c : _) (plan : _) (shows : _) (lines : List (List ℕ)) (line rest : List ℕ)
-        → All IsLine lines → BeginLegally c plan shows lines → IsLine line → (BeginLegally c plan shows (lines ++ line ∷ []) → ⊥)
+        → All IsEndedLine lines → BeginLegally c plan shows lines → IsEndedLine line → (BeginLegally c plan shows (lines ++ line ∷ []) → ⊥)
         → IsFirstBad c plan shows (concat lines ++ (line ++ rest)) (length lines + 1) }
     ensures rest { (c : _) (plan : _) (shows : _) (lines : List (List ℕ)) (rest : List ℕ)
-        → All IsLine lines → BeginLegally c plan shows lines → lacks 10 rest ≡ true → (IsLegalText c plan shows (concat lines ++ rest) → ⊥)
+        → All IsEndedLine lines → BeginLegally c plan shows lines → lacks 10 rest ≡ true → (IsLegalText c plan shows (concat lines ++ rest) → ⊥)
         → IsFirstBad c plan shows (concat lines ++ rest) (length lines + 1) }
 {}
 
@@ -75,11 +75,11 @@ pub fn bad_line_stands_behind_good_ones()
 /// newline ends, or none at all.
 pub fn bad_line_is_that_of_no_next_entry()
     ensures other { (c : _) (plan : _) (shows : _) (entries : List Entry) (line rest : List ℕ)
-        → IsSized c plan → IsBeginning c plan entries → length entries < length (sends_of plan) → lacks 10 line ≡ true
+        → IsSizedPlan c plan → IsBeginning c plan entries → length entries < length (sends_of plan) → lacks 10 line ≡ true
         → ((next : _) → IsBeginning c plan (entries ++ next ∷ []) → entry_text (length entries + 1) next ≡ line ++ 10 ∷ [] → ⊥)
         → IsFirstBad c plan shows (entries_text 1 entries ++ (line ++ 10 ∷ rest)) (length entries + 1) }
     ensures missing { (c : _) (plan : _) (shows : _) (entries : List Entry) (rest : List ℕ)
-        → IsSized c plan → IsBeginning c plan entries → length entries < length (sends_of plan) → lacks 10 rest ≡ true
+        → IsSizedPlan c plan → IsBeginning c plan entries → length entries < length (sends_of plan) → lacks 10 rest ≡ true
         → IsFirstBad c plan shows (entries_text 1 entries ++ rest) (length entries + 1) }
 {}
 

@@ -2,7 +2,7 @@
 ghost use Rattle.std.specs.Prelude.{◌≡◌, ◌+◌, ◌<◌, ◌≤◌, ◌^◌, ◌++◌, [], IfOk, IfSome, None, OnOk, Some, length, slice_get, ℕ};
 ghost use Rattle.history_model.specs.Sent.{named_in, next_ordinal, sends_of, sends_of_items, sends_of_parts};
 ghost use Rattle.script_cmds.specs.declared.item.Item.TheVariants as item;
-ghost use Rattle.history_check.specs.Table.{GoesOn, IsAt, IsTable, is_sent, sends_by, sends_in, sent_in, waiting_of};
+ghost use Rattle.history_check.specs.Table.{HasGoneOn, IsAt, IsTable, is_sent, sends_by, sends_in, sent_in, waiting_of};
 
 use cp_base::{Command, NoMemory};
 use script_cmds::{HostPart, Item, Phase};
@@ -130,7 +130,7 @@ impl Table {
         requires few { length (sends_in self.old) + 1 < 2 ^ 32 }
         requires begun { sender.old.begin ≤ length self.old.takes.items }
         ensures table { OnOk result (IsTable self.new) }
-        ensures more { OnOk result (GoesOn self.old sender.old (item.Send cid command.now) self.new sender.new) }
+        ensures more { OnOk result (HasGoneOn self.old sender.old (item.Send cid command.now) self.new sender.new) }
     {
         let place = self.commands.len();
         let ordinal = self.sent_by(sender.host) + 1;
@@ -157,7 +157,7 @@ impl Table {
         requires table { IsTable self.old }
         requires begun { sender.old.begin ≤ length self.old.takes.items }
         ensures table { OnOk result (IsTable self.new) }
-        ensures more { OnOk result (GoesOn self.old sender.old (item.Take cid) self.new sender.new) }
+        ensures more { OnOk result (HasGoneOn self.old sender.old (item.Take cid) self.new sender.new) }
     {
         let outstanding = sender.outstanding.as_slice();
         for sent in outstanding {
@@ -175,7 +175,7 @@ impl Table {
         requires few { is_sent item.now + length (sends_in self.old) < 2 ^ 32 }
         requires begun { sender.old.begin ≤ length self.old.takes.items }
         ensures table { OnOk result (IsTable self.new) }
-        ensures more { OnOk result (GoesOn self.old sender.old item.now self.new sender.new) }
+        ensures more { OnOk result (HasGoneOn self.old sender.old item.now self.new sender.new) }
     {
         match item {
             Item::Send { cid, command } => self.add_send(sender, *cid, command),

@@ -90,8 +90,8 @@ abbrev pub fill_and_withdraw : Arc Command Global → List Phase
 fill_and_withdraw shared = one_phase (part 1 (sending shared 1 fill ∷ sending shared 2 (withdraw 1) ∷ item.Take 1 ∷ item.Take 2 ∷ []) ∷ [])
 
 -- a command that was answered without bytes
-abbrev pub told : Sent → Status → ℕ → Entry
-told sent status value = record { sent = sent; answer = record { status = status; result = value; bytes = [] } }
+abbrev pub entry_told : Sent → Status → ℕ → Entry
+entry_told sent status value = record { sent = sent; answer = record { status = status; result = value; bytes = [] } }
 
 -- what each command of a plan names, in the order of its text
 abbrev pub named_by : List Phase → List (Option ℕ)

@@ -8,7 +8,7 @@ use Rattle.script_cmds.specs.declared.item.Item.TheVariants as item
 use Rattle.script_cmds.specs.declared.item.HostPart.{HostPart}
 use Rattle.script_cmds.specs.declared.item.Phase.{Phase}
 use Rattle.script_cmds.specs.declared.script.Script.{Script}
-use Rattle.script_cmds.specs.Queues.{queue_depth, queue_of}
+use Rattle.script_cmds.specs.Queues.{queue_depth, queue_of_cid}
 use Rattle.script_cmds.specs.Text.{configuration_lines}
 
 -- the rules of queues, each by its breach
@@ -41,14 +41,14 @@ is_outstanding cid outstanding = list_any (λ other. other == cid) outstanding
 
 -- how many outstanding commands are those of a queue
 abbrev pub in_queue : ℕ → List ℕ → ℕ
-in_queue queue outstanding = count_by (λ cid. queue_of cid == queue) outstanding
+in_queue queue outstanding = count_by (λ cid. queue_of_cid cid == queue) outstanding
 
 -- A host's items from a line on, where commands of these identifiers are outstanding, in order of
 -- sending, and each of its queues has this depth. Those that are outstanding at the end are taken in that order.
 abbrev pub planned_items : ℕ → ℕ → List ℕ → List Item → Result (List Item) PlanFault
 planned_items depth line outstanding [] = Ok (map (λ cid. item.Take cid) outstanding)
 planned_items depth line outstanding (item.Send cid command ∷ items) =
-    if nat_le depth (in_queue (queue_of cid) outstanding) then breaks line QueueFull
+    if nat_le depth (in_queue (queue_of_cid cid) outstanding) then breaks line QueueFull
     else if is_outstanding cid outstanding then breaks line CidBusy
     else then_plan (λ rest. item.Send cid command ∷ rest) (planned_items depth (line + 1) (outstanding ++ cid ∷ []) items)
 planned_items depth line outstanding (item.Take cid ∷ items) =

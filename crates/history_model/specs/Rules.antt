@@ -8,7 +8,7 @@ use Rattle.script_cmds.specs.declared.item.Item.{Item}
 use Rattle.script_cmds.specs.declared.item.Item.TheVariants as item
 use Rattle.script_cmds.specs.declared.item.HostPart.{HostPart}
 use Rattle.script_cmds.specs.declared.item.Phase.{Phase}
-use Rattle.script_cmds.specs.Queues.{queue_of}
+use Rattle.script_cmds.specs.Queues.{queue_of_cid}
 use Rattle.history_model.specs.Plan.{in_queue}
 
 -- the identifiers of the outstanding commands after one of them is taken
@@ -21,7 +21,7 @@ without cid outstanding = filter (λ other. not (other == cid)) outstanding
 abbrev pub KeepsEachQueue : ℕ → List ℕ → List Item → Type 0
 KeepsEachQueue depth outstanding [] = outstanding ≡ []
 KeepsEachQueue depth outstanding (item.Send cid command ∷ items) =
-    (in_queue (queue_of cid) outstanding < depth) × (Contains outstanding cid → ⊥) × KeepsEachQueue depth (outstanding ++ cid ∷ []) items
+    (in_queue (queue_of_cid cid) outstanding < depth) × (Contains outstanding cid → ⊥) × KeepsEachQueue depth (outstanding ++ cid ∷ []) items
 KeepsEachQueue depth outstanding (item.Take cid ∷ items) = Contains outstanding cid × KeepsEachQueue depth (without cid outstanding) items
 
 -- a phase has a host, and each host's part keeps the rules of each of its queues

@@ -1,6 +1,6 @@
 // Worked examples of the definitions. The functions do nothing: what they ensure is what is proved.
 ghost use Rattle.std.specs.Prelude.{◌≡◌, ◌++◌, ◌∷◌, [], None, Some, codes};
-ghost use Rattle.history_model.specs.Examples.{answered, fill, fill_and_withdraw, filled, look, looked, named_by, one_host, one_phase, part, script_of, sending, small_device, told, two_hosts, withdraw, with_two_queues, withdrawing};
+ghost use Rattle.history_model.specs.Examples.{answered, fill, fill_and_withdraw, filled, look, looked, named_by, one_host, one_phase, part, script_of, sending, small_device, entry_told, two_hosts, withdraw, with_two_queues, withdrawing};
 ghost use Rattle.history_model.specs.Legal.{IsLegal};
 ghost use Rattle.history_model.specs.Plain.{plain_phases};
 ghost use Rattle.history_model.specs.Plan.{QueueFull, CidBusy, NotOutstanding, NoHosts, breaks, plan_of};
@@ -49,10 +49,10 @@ pub fn aborts_by_example()
     ensures itself { (shared : _) → named_by (one_phase (part 1 (sending shared 1 (withdraw 1) ∷ []) ∷ [])) ≡ None ∷ [] }
     ensures earlier_phase { (shared : _) → named_by (one_phase (part 1 (sending shared 1 fill ∷ []) ∷ []) ++ one_phase (part 1 (sending shared 2 (withdraw 1) ∷ []) ∷ [])) ≡ None ∷ None ∷ [] }
     ensures other_host { (shared : _) → named_by (one_phase (part 1 (sending shared 1 fill ∷ []) ∷ part 2 (sending shared 2 (withdraw 1) ∷ []) ∷ [])) ≡ None ∷ None ∷ [] }
-    ensures withdrawn { (shared : _) → IsLegal (small_device 2) (fill_and_withdraw shared) (told withdrawing Status.Ok 0 ∷ told filled Status.Aborted 0 ∷ []) }
-    ensures too_late { (shared : _) → IsLegal (small_device 2) (fill_and_withdraw shared) (told filled Status.Ok 0 ∷ told withdrawing Status.Ok 1 ∷ []) }
-    ensures wrong_order { (shared : _) → IsLegal (small_device 2) (fill_and_withdraw shared) (told filled Status.Aborted 0 ∷ told withdrawing Status.Ok 0 ∷ []) → ⊥ }
-    ensures not_withdrawn { (shared : _) → IsLegal (small_device 2) (fill_and_withdraw shared) (told withdrawing Status.Ok 0 ∷ told filled Status.Ok 0 ∷ []) → ⊥ }
+    ensures withdrawn { (shared : _) → IsLegal (small_device 2) (fill_and_withdraw shared) (entry_told withdrawing Status.Ok 0 ∷ entry_told filled Status.Aborted 0 ∷ []) }
+    ensures too_late { (shared : _) → IsLegal (small_device 2) (fill_and_withdraw shared) (entry_told filled Status.Ok 0 ∷ entry_told withdrawing Status.Ok 1 ∷ []) }
+    ensures wrong_order { (shared : _) → IsLegal (small_device 2) (fill_and_withdraw shared) (entry_told filled Status.Aborted 0 ∷ entry_told withdrawing Status.Ok 0 ∷ []) → ⊥ }
+    ensures not_withdrawn { (shared : _) → IsLegal (small_device 2) (fill_and_withdraw shared) (entry_told withdrawing Status.Ok 0 ∷ entry_told filled Status.Ok 0 ∷ []) → ⊥ }
 {}
 
 /// The line of an entry and the line of a show, to the byte.

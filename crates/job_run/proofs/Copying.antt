@@ -16,7 +16,7 @@ use Rattle.trail_model.specs.Pieces.{RegionBytes, carried, gathered_joined, has_
 use Rattle.trail_model.proofs.Bytes.{gathered_joined-same}
 use Rattle.trail_model.proofs.Regions.{IsInSome, out-has_byte}
 use Rattle.job_run.specs.Held.{IsAlone, IsBeside, IsHeld, IsSource, BeginsNowhere, begins, holds}
-use Rattle.job_run.specs.Works.{byte_counts, piece_regions, pieces_with, region_bytes, with_bytes}
+use Rattle.job_run.specs.Works.{byte_counts, piece_holding, piece_regions, pieces_with, region_bytes}
 use Rattle.job_run.proofs.Holding.{held-parts, same_region-true}
 
 -- the pieces where that of a region has no bytes
@@ -138,7 +138,7 @@ pub patched-whole : (old bytes : List ℕ) → length old ≡ length bytes → p
 patched-whole old bytes e = ap (λ (rest : List ℕ). bytes ++ rest) (drop_all (0 + length bytes) old (omega arith)) ∙ append-nil bytes
 
 pub only-put : (ps : List Piece) (x : Piece) (b : Buffer) (bytes : List ℕ) → length ps ≡ 1 → get_or ps 0 x ≡ x → b.items ≡ bytes
-    → region_bytes (set ps 0 (record { range = x.range; bytes = b })) ≡ map (with_bytes bytes) (region_bytes ps)
+    → region_bytes (set ps 0 (record { range = x.range; bytes = b })) ≡ map (piece_holding bytes) (region_bytes ps)
 only-put [] x b bytes one e same = absurd (omega arith)
 only-put (p ∷ []) x b bytes one e same = λ k. record { region = (sym e k).range; bytes = same k } ∷ []
 only-put (p ∷ q ∷ ps) x b bytes one e same = absurd (omega arith)

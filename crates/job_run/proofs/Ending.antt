@@ -12,7 +12,7 @@ use Rattle.device_model.specs.Execution.{told_of}
 use Rattle.trail_model.specs.LocalEffects.{ranges_with}
 use Rattle.trail_model.specs.Pieces.{RegionBytes}
 use Rattle.job_run.specs.Windows.{piece_bytes}
-use Rattle.job_run.specs.Works.{AreOfRanges, memory_in, region_bytes, with_bytes}
+use Rattle.job_run.specs.Works.{AreOfRanges, memory_in, piece_holding, region_bytes}
 use Rattle.job_run.proofs.Executing.{pieces-at_first, windows-seen}
 use Rattle.job_run.proofs.Marking.{finished, forbidden, length-marks, marks-left, no_marks-left, too_dear}
 
@@ -89,7 +89,7 @@ module _ (ps : List Piece) (ranges : List MemRange) (low high p1 p2 budget cost 
   marks-are = λ i. marks_of (lower i) (upper i) (take (is i) (window_at (piece_bytes ps) 0))
 
   pub marked-left : allows_writing (range_at ranges 1).access ≡ true → (p : RegionBytes) → slice_get (region_bytes ps) 1 ≡ Some p → p.bytes ≡ window_at (piece_bytes ps) 1
-      → set (region_bytes ps) 1 (with_bytes (patched p.bytes 0 (marks_of low high (take cost (window_at (piece_bytes ps) 0)))) p)
+      → set (region_bytes ps) 1 (piece_holding (patched p.bytes 0 (marks_of low high (take cost (window_at (piece_bytes ps) 0)))) p)
       ≡ ranges_with (builtin_outcome Classes ranges (memory_in ps) p1 p2 budget).memory ranges
   marked-left access p at second =
       let size = length-take-le cost (window_at (piece_bytes ps) 0) (omega (arith, is)) in

@@ -20,7 +20,7 @@ use Rattle.trail_model.specs.LocalEffects.{ranges_with}
 use Rattle.trail_model.specs.Pieces.{RegionBytes}
 use Rattle.trail_model.proofs.Bytes.{length-patched, patched-inside, patched-outside}
 use Rattle.job_run.specs.Windows.{piece_bytes}
-use Rattle.job_run.specs.Works.{AreOfRanges, memory_in, region_bytes, with_bytes}
+use Rattle.job_run.specs.Works.{AreOfRanges, memory_in, piece_holding, region_bytes}
 use Rattle.job_run.proofs.Covered.{LieApart, none-apart}
 use Rattle.job_run.proofs.Executing.{listed, pieces-at_first}
 
@@ -94,7 +94,7 @@ patched_here m r bytes fits =
 
 marked_ranges : (m : Memory) (ranges : List MemRange) (bytes : List ℕ) (p : RegionBytes) → LieApart (map range_region ranges) → slice_get (ranges_with m ranges) 1 ≡ Some p
     → length bytes ≤ length p.bytes
-    → set (ranges_with m ranges) 1 (with_bytes (patched p.bytes 0 bytes) p) ≡ ranges_with (overwritten m (range_at ranges 1).ns (range_at ranges 1).at bytes) ranges
+    → set (ranges_with m ranges) 1 (piece_holding (patched p.bytes 0 bytes) p) ≡ ranges_with (overwritten m (range_at ranges 1).ns (range_at ranges 1).at bytes) ranges
 marked_ranges m [] bytes p apart at fits = cc
 marked_ranges m (r ∷ []) bytes p apart at fits = cc
 marked_ranges m (r ∷ x ∷ rs) bytes p apart at fits =
@@ -105,15 +105,15 @@ marked_ranges m (r ∷ x ∷ rs) bytes p apart at fits =
     let second = patched_here m x bytes few in
     let rest = kept_rest m x rs bytes few apart.1.0 in
     sym ((λ i. record { region = range_region r; bytes = first i } ∷ record { region = range_region x; bytes = second i } ∷ rest i)
-    ∙ ap (λ (q : RegionBytes). record { region = range_region r; bytes = bytes_from m r.ns r.at r.len } ∷ with_bytes (patched q.bytes 0 bytes) q ∷ ranges_with m rs) is)
+    ∙ ap (λ (q : RegionBytes). record { region = range_region r; bytes = bytes_from m r.ns r.at r.len } ∷ piece_holding (patched q.bytes 0 bytes) q ∷ ranges_with m rs) is)
 
 -- marks over the second piece are marks in the memory
 pub marks-left : (ps : List Piece) (ranges : List MemRange) (bytes : List ℕ) (p : RegionBytes) → AreOfRanges ps ranges → slice_get (region_bytes ps) 1 ≡ Some p
     → length bytes ≤ length p.bytes
-    → set (region_bytes ps) 1 (with_bytes (patched p.bytes 0 bytes) p) ≡ ranges_with (overwritten (memory_in ps) (range_at ranges 1).ns (range_at ranges 1).at bytes) ranges
+    → set (region_bytes ps) 1 (piece_holding (patched p.bytes 0 bytes) p) ≡ ranges_with (overwritten (memory_in ps) (range_at ranges 1).ns (range_at ranges 1).at bytes) ranges
 marks-left ps ranges bytes p of at fits =
     let same = pieces-at_first ps ranges of in
-    ap (λ (qs : List RegionBytes). set qs 1 (with_bytes (patched p.bytes 0 bytes) p)) same
+    ap (λ (qs : List RegionBytes). set qs 1 (piece_holding (patched p.bytes 0 bytes) p)) same
     ∙ marked_ranges (memory_in ps) ranges bytes p (none-apart (map range_region ranges) of.apart) (ap (λ (qs : List RegionBytes). slice_get qs 1) (sym same) ∙ at) fits
 
 -- no marks change nothing

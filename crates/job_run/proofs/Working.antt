@@ -39,7 +39,7 @@ use Rattle.trail_model.specs.Pieces.{AllBytes, RegionBytes, carried, gathered, g
 use Rattle.trail_model.proofs.Bytes.{length-gathered}
 use Rattle.trail_model.proofs.Passing.{Passes, all-pass, behind-passes, check-passes, passes}
 use Rattle.job_run.specs.Held.{IsAlone, IsBeside, IsHeld, IsRange, IsSource}
-use Rattle.job_run.specs.Works.{AreOfRanges, FitsExecution, IsCodeOf, IsDone, IsWork, byte_counts, memory_in, new_piece, piece_regions, pieces_after, pieces_with, region_bytes, with_bytes}
+use Rattle.job_run.specs.Works.{AreOfRanges, FitsExecution, IsWork, IsWorkDone, RunsDecoded, byte_counts, memory_in, new_piece, piece_holding, piece_regions, pieces_after, pieces_with, region_bytes}
 use Rattle.job_run.specs.declared.work.Work.{Work}
 use Rattle.job_run.specs.declared.work.Worked.{Worked}
 use Rattle.job_run.specs.private.Kinds.{IsCopyable, IsExecutable, IsOfSlot, IsReadable, IsWritable, Leaves, source_regions}
@@ -83,7 +83,7 @@ carried-one p whole =
 
 -- what work leaves is done, where it is the local effect's answer and pieces
 done_by : (c : Configuration) (s : State) (w : Work) (d : Worked) (answer : Answer) (pieces : List RegionBytes) → (effect_in c s w).answer ≡ answer
-    → pieces_after (effect_in c s w) (region_bytes w.pieces.items) ≡ pieces → Leaves d answer pieces → IsDone c s w d
+    → pieces_after (effect_in c s w) (region_bytes w.pieces.items) ≡ pieces → Leaves d answer pieces → IsWorkDone c s w d
 done_by c s w d answer pieces a p left = record { answer = left.answer ∙ sym a; pieces = left.pieces ∙ sym p }
 
 -- what work leaves, said otherwise
@@ -111,7 +111,7 @@ answer_with bytes = record { status = status.Ok; result = 0; bytes = bytes }
 
 pub record ReadFinds (c : Configuration) (s : State) (w : Work) : Type 0 where
   pub finds : IsReadable w.pieces.items w.reply
-  pub done : (d : Worked) → ((p : RegionBytes) → region_bytes w.pieces.items ≡ p ∷ [] → Leaves d (answer_with p.bytes) (region_bytes w.pieces.items)) → IsDone c s w d
+  pub done : (d : Worked) → ((p : RegionBytes) → region_bytes w.pieces.items ≡ p ∷ [] → Leaves d (answer_with p.bytes) (region_bytes w.pieces.items)) → IsWorkDone c s w d
 
 module _ (c : Configuration) (s : State) (w : Work) (r : Region) (work : IsWork c s w) (one : HasOnePiece w r)
     (effect : effect_in c s w ≡ gave (gathered (carried (region_bytes w.pieces.items)) r.space r.start r.len)) where
@@ -158,11 +158,11 @@ write-count w r n one e =
     ap (λ (ps : List RegionBytes). byte_counts ps) one.only ∙ ap (λ (k : ℕ). k ∷ []) (one.whole ∙ e)
 
 write-pieces : (effect : LocalEffect) (w : Work) (r : Region) (bytes : List ℕ) → HasOnePiece w r → r.len ≡ length bytes → effect ≡ laid r.space r.start bytes
-    → pieces_after effect (region_bytes w.pieces.items) ≡ map (with_bytes bytes) (region_bytes w.pieces.items)
+    → pieces_after effect (region_bytes w.pieces.items) ≡ map (piece_holding bytes) (region_bytes w.pieces.items)
 write-pieces effect w r bytes one len e =
     ap (λ (x : LocalEffect). pieces_after x (region_bytes w.pieces.items)) e
     ∙ (ap (λ (ps : List RegionBytes). pieces_after (laid r.space r.start bytes) ps) one.only
-    ∙ (here ∙ sym (ap (λ (ps : List RegionBytes). map (with_bytes bytes) ps) one.only)))
+    ∙ (here ∙ sym (ap (λ (ps : List RegionBytes). map (piece_holding bytes) ps) one.only)))
   where
     written : RegionBytes
     written = record { region = record { space = r.space; start = r.start; len = length bytes }; bytes = bytes }
@@ -170,7 +170,7 @@ write-pieces effect w r bytes one len e =
     same : record { space = r.space; start = r.start; len = length bytes } ≡ one.piece.region
     same = (λ i. record { space = r.space; start = r.start; len = sym len i }) ∙ sym one.region
 
-    here : pieces_after (laid r.space r.start bytes) (one.piece ∷ []) ≡ with_bytes bytes one.piece ∷ []
+    here : pieces_after (laid r.space r.start bytes) (one.piece ∷ []) ≡ piece_holding bytes one.piece ∷ []
     here =
         ap (λ (b : Bool). (if b then record { region = record { space = r.space; start = r.start; len = length bytes }; bytes = bytes } else one.piece) ∷ [])
         (same_region-itself (record { space = r.space; start = r.start; len = length bytes }) one.piece.region same)
@@ -179,7 +179,7 @@ write-pieces effect w r bytes one len e =
 -- what it finds where it writes these bytes, of which there are so many
 pub record WriteFinds (c : Configuration) (s : State) (w : Work) (bytes : List ℕ) (len : ℕ) : Type 0 where
   pub finds : IsWritable w.pieces.items w.reply len
-  pub done : (d : Worked) → Leaves d (only_status status.Ok) (map (with_bytes bytes) (region_bytes w.pieces.items)) → IsDone c s w d
+  pub done : (d : Worked) → Leaves d (only_status status.Ok) (map (piece_holding bytes) (region_bytes w.pieces.items)) → IsWorkDone c s w d
 
 write-finds : (c : Configuration) (s : State) (w : Work) (r : Region) (bytes : List ℕ) (len : ℕ) → IsWork c s w
     → carried_regions c (execution_of s w.command.value).ranges w.command.value ≡ r ∷ [] → r.len ≡ len → len ≡ length bytes
@@ -188,7 +188,7 @@ write-finds c s w r bytes len work carries here size effect =
     let one = one-piece c s w r work carries in
     record {
       finds = record { one = one.count; counts = write-count w r len one here; empty = work.no_reply };
-      done = λ d left. done_by c s w d (only_status status.Ok) (map (with_bytes bytes) (region_bytes w.pieces.items)) (ap (λ (x : LocalEffect). x.answer) effect)
+      done = λ d left. done_by c s w d (only_status status.Ok) (map (piece_holding bytes) (region_bytes w.pieces.items)) (ap (λ (x : LocalEffect). x.answer) effect)
           (write-pieces (effect_in c s w) w r bytes one (here ∙ size) effect) left;
     }
 
@@ -258,7 +258,7 @@ pub record CopyFinds (c : Configuration) (s : State) (w : Work) (space : SpaceId
   pub done : (d : Worked) → Leaves d (only_status status.Ok) (pieces_with (record {
     region = destination_of space start (source_regions w.block from);
     bytes = gathered_joined (carried (region_bytes w.pieces.items)) (source_regions w.block from);
-  }) (region_bytes w.pieces.items)) → IsDone c s w d
+  }) (region_bytes w.pieces.items)) → IsWorkDone c s w d
 
 copy-finds : (c : Configuration) (s : State) (w : Work) (to : SpaceId) (start : ℕ) (from : List CopySource) → IsWork c s w
     → carried_regions c (execution_of s w.command.value).ranges w.command.value
@@ -325,7 +325,7 @@ pub record RunFinds (c : Configuration) (s : State) (w : Work) (slot p1 p2 budge
   pub empty : w.reply.items ≡ []
   pub finds : IsExecutable (executable_in s slot) ranges w.pieces.items w.windows.items (vec_capacity w.windows) (option_map (λ decoded. decoded.value) w.code) w.stack slot budget
   pub done : (d : Worked) → Leaves d (told_of budget (outcome_on (executable_in s slot) ranges (memory_in w.pieces.items) p1 p2 budget).ending)
-      (ranges_with (outcome_on (executable_in s slot) ranges (memory_in w.pieces.items) p1 p2 budget).memory ranges) → IsDone c s w d
+      (ranges_with (outcome_on (executable_in s slot) ranges (memory_in w.pieces.items) p1 p2 budget).memory ranges) → IsWorkDone c s w d
 
 -- ---- what runs
 
@@ -335,7 +335,7 @@ pub record HasCode (runs : Executable) (slots : List (Option Insn)) : Type 0 whe
   pub is : runs ≡ Loaded bytes
   pub same : (place : ℕ) → insn_at slots (pos place) ≡ instruction_at bytes place
 
-pub loaded-code : (runs : Executable) (code : Option (List (Option Insn))) (slots : List (Option Insn)) → IsCodeOf runs code → code ≡ Some slots → HasCode runs slots
+pub loaded-code : (runs : Executable) (code : Option (List (Option Insn))) (slots : List (Option Insn)) → RunsDecoded runs code → code ≡ Some slots → HasCode runs slots
 loaded-code (Loaded bytes) None slots h e = absurd h
 loaded-code (Loaded bytes) (Some other) slots h e =
     let here : other ≡ slots = cc in
@@ -353,7 +353,7 @@ pub record HasOwn (runs : Executable) (slot : ℕ) : Type 0 where
   pub is : runs ≡ OfDevice program
   pub at : builtin_at slot ≡ Some program
 
-pub own-code : (runs : Executable) (code : Option (List (Option Insn))) (slot : ℕ) → IsCodeOf runs code → code ≡ None → IsOfSlot runs slot → HasOwn runs slot
+pub own-code : (runs : Executable) (code : Option (List (Option Insn))) (slot : ℕ) → RunsDecoded runs code → code ≡ None → IsOfSlot runs slot → HasOwn runs slot
 own-code (Loaded bytes) None slot h e at = absurd h
 own-code (Loaded bytes) (Some other) slot h e at = cc
 own-code (OfDevice program) None slot h e at = record { program = program; is = refl; at = at }

@@ -37,8 +37,8 @@ new_piece [] piece = piece
 new_piece (written ∷ others) piece = if same_region written.region piece.region then written else new_piece others piece
 
 -- a piece with other bytes
-abbrev pub with_bytes : List ℕ → RegionBytes → RegionBytes
-with_bytes bytes piece = record { region = piece.region; bytes = bytes }
+abbrev pub piece_holding : List ℕ → RegionBytes → RegionBytes
+piece_holding bytes piece = record { region = piece.region; bytes = bytes }
 
 -- how many bytes each of the pieces has
 abbrev pub byte_counts : List RegionBytes → List ℕ
@@ -64,16 +64,16 @@ abbrev pub memory_in : List Piece → Memory
 memory_in pieces = memory_among (carried (region_bytes pieces))
 
 -- decoded code is what an execution runs: the instructions of a loaded program, and none for a program of the device
-abbrev pub IsCodeOf : Executable → Option (List (Option Insn)) → Type 0
-IsCodeOf (Loaded code) (Some slots) = (place : ℕ) → insn_at slots (pos place) ≡ instruction_at code place
-IsCodeOf (Loaded code) None = ⊥
-IsCodeOf (OfDevice program) (Some slots) = ⊥
-IsCodeOf (OfDevice program) None = Unit {0}
+abbrev pub RunsDecoded : Executable → Option (List (Option Insn)) → Type 0
+RunsDecoded (Loaded code) (Some slots) = (place : ℕ) → insn_at slots (pos place) ≡ instruction_at code place
+RunsDecoded (Loaded code) None = ⊥
+RunsDecoded (OfDevice program) (Some slots) = ⊥
+RunsDecoded (OfDevice program) None = Unit {0}
 
 -- the ranges, the code, the stack and the room for windows of an execution
 pub record FitsExecution (x : Execution) (w : Work) : Type 0 where
   pub set : w.set ≡ Some x.ranges
-  pub code : IsCodeOf x.runs (option_map (λ decoded. decoded.value) w.code)
+  pub code : RunsDecoded x.runs (option_map (λ decoded. decoded.value) w.code)
   pub apart : any_overlap (map range_region x.ranges) ≡ false
   pub stack : w.stack.items ≡ replicate stack_len 0
   pub windows : length w.pieces.items ≤ vec_capacity w.windows
@@ -92,7 +92,7 @@ pub record IsWork (c : Configuration) (s : State) (w : Work) : Type 0 where
   pub execution : is_execution w.command.value ≡ true → FitsExecution (execution_of s w.command.value) w
 
 -- the local effect of work, told and put into the pieces
-pub record IsDone (c : Configuration) (s : State) (w : Work) (done : Worked) : Type 0 where
+pub record IsWorkDone (c : Configuration) (s : State) (w : Work) (done : Worked) : Type 0 where
   pub answer : answer_of done.reply ≡ (local_effect c (execution_of s w.command.value) (region_bytes w.pieces.items) w.command.value).answer
   pub pieces : region_bytes done.pieces.items
       ≡ pieces_after (local_effect c (execution_of s w.command.value) (region_bytes w.pieces.items) w.command.value) (region_bytes w.pieces.items)

@@ -9,7 +9,7 @@ ghost use Rattle.trail_model.specs.LocalEffects.{ranges_with};
 ghost use Rattle.trail_model.specs.Pieces.{RegionBytes};
 ghost use Rattle.job_run.specs.Own.{named_builtin};
 ghost use Rattle.job_run.specs.Windows.{piece_bytes};
-ghost use Rattle.job_run.specs.Works.{AreOfRanges, memory_in, region_bytes, with_bytes};
+ghost use Rattle.job_run.specs.Works.{AreOfRanges, memory_in, piece_holding, region_bytes};
 
 use crate::pieces::{put_bytes, take_bytes};
 use builtin_programs::{count_byte, first_difference, mark_class, sum_bytes};
@@ -201,7 +201,7 @@ fn marked(pieces: &mut Vec<Piece>, cost: u64, low: u8, high: u8) -> u64
     ensures number { result ≡ sum (marks_of low high (take cost (window_at (piece_bytes pieces.old.items) 0))) }
     ensures marks { (piece : RegionBytes) → slice_get (region_bytes pieces.old.items) 1 ≡ Some piece
         → region_bytes pieces.new.items ≡ slice_set (region_bytes pieces.old.items) 1
-        (with_bytes (patched piece.bytes 0 (marks_of low high (take cost (window_at (piece_bytes pieces.old.items) 0)))) piece) }
+        (piece_holding (patched piece.bytes 0 (marks_of low high (take cost (window_at (piece_bytes pieces.old.items) 0)))) piece) }
 {
     let mut into = take_bytes(pieces, 1);
     let number = mark(

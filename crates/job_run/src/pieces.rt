@@ -3,7 +3,7 @@ ghost use Rattle.std.specs.Prelude.{◌≡◌, ◌+◌, ◌<◌, ◌≤◌, ◌�
 ghost use Rattle.cp_base.specs.Region.{Region, region_of};
 ghost use Rattle.trail_model.specs.Pieces.{RegionBytes, carried, gathered};
 ghost use Rattle.job_run.specs.Held.{BeginsOnce, IsAlone, IsHeld, begins, holds};
-ghost use Rattle.job_run.specs.Works.{byte_counts, piece_regions, pieces_with, region_bytes, with_bytes};
+ghost use Rattle.job_run.specs.Works.{byte_counts, piece_holding, piece_regions, pieces_with, region_bytes};
 
 use cp_base::{Bytes, Piece, SpaceId};
 use std::mem;
@@ -63,7 +63,7 @@ pub(crate) fn take_bytes(pieces: &mut Vec<Piece>, index: usize) -> Bytes
     requires { index < length pieces.old.items }
     ensures bytes { (piece : RegionBytes) → slice_get (region_bytes pieces.old.items) index ≡ Some piece → result.items ≡ piece.bytes }
     ensures left { (piece : RegionBytes) → slice_get (region_bytes pieces.old.items) index ≡ Some piece
-        → region_bytes pieces.new.items ≡ slice_set (region_bytes pieces.old.items) index (with_bytes [] piece) }
+        → region_bytes pieces.new.items ≡ slice_set (region_bytes pieces.old.items) index (piece_holding [] piece) }
 {
     let nothing = Bytes::new(*pieces.allocator());
     mem::replace(&mut pieces[index].bytes, nothing)
@@ -73,7 +73,7 @@ pub(crate) fn take_bytes(pieces: &mut Vec<Piece>, index: usize) -> Bytes
 pub(crate) fn put_bytes(pieces: &mut Vec<Piece>, index: usize, bytes: Bytes)
     requires { index < length pieces.old.items }
     ensures { (piece : RegionBytes) → slice_get (region_bytes pieces.old.items) index ≡ Some piece
-        → region_bytes pieces.new.items ≡ slice_set (region_bytes pieces.old.items) index (with_bytes bytes.items piece) }
+        → region_bytes pieces.new.items ≡ slice_set (region_bytes pieces.old.items) index (piece_holding bytes.items piece) }
 {
     pieces[index].bytes = bytes;
 }
@@ -89,7 +89,7 @@ pub(crate) fn only(pieces: &[Piece]) -> &[u8]
 /// Puts as many bytes as the only piece has over those that it has.
 pub(crate) fn write(pieces: &mut Vec<Piece>, bytes: &[u8])
     requires { byte_counts (region_bytes pieces.old.items) ≡ length bytes.now ∷ [] }
-    ensures { region_bytes pieces.new.items ≡ map (with_bytes bytes.now) (region_bytes pieces.old.items) }
+    ensures { region_bytes pieces.new.items ≡ map (piece_holding bytes.now) (region_bytes pieces.old.items) }
 {
     pieces[0].bytes.write(0, bytes);
 }
@@ -98,7 +98,7 @@ pub(crate) fn write(pieces: &mut Vec<Piece>, bytes: &[u8])
 pub(crate) fn fill(pieces: &mut Vec<Piece>, value: u8)
     requires { length pieces.old.items ≡ 1 }
     ensures { (n : ℕ) → byte_counts (region_bytes pieces.old.items) ≡ n ∷ []
-        → region_bytes pieces.new.items ≡ map (with_bytes (replicate n value)) (region_bytes pieces.old.items) }
+        → region_bytes pieces.new.items ≡ map (piece_holding (replicate n value)) (region_bytes pieces.old.items) }
 {
     let piece = &mut pieces[0];
     let len = piece.bytes.len();

@@ -8,7 +8,7 @@ ghost use Rattle.device_model.specs.Execution.{Executable, outcome_on, told_of};
 ghost use Rattle.device_model.specs.State.{State};
 ghost use Rattle.trail_model.specs.LocalEffects.{ranges_with};
 ghost use Rattle.trail_model.specs.Pieces.{RegionBytes, carried, gathered_joined};
-ghost use Rattle.job_run.specs.Works.{IsDone, IsWork, byte_counts, memory_in, pieces_with, region_bytes, with_bytes};
+ghost use Rattle.job_run.specs.Works.{IsWork, IsWorkDone, byte_counts, memory_in, piece_holding, pieces_with, region_bytes};
 ghost use Rattle.job_run.specs.private.Kinds.{IsCopyable, IsExecutable, IsReadable, IsWritable, Leaves, source_regions};
 
 use crate::copies::copy;
@@ -63,7 +63,7 @@ impl Work {
     /// effect; the pieces that it writes have their new bytes, and each other is as it was.
     pub fn run(self) -> Worked
         requires { (c : Configuration) × (s : State) × IsWork c s self }
-        ensures { (c : Configuration) (s : State) → IsWork c s self → IsDone c s self result }
+        ensures { (c : Configuration) (s : State) → IsWork c s self → IsWorkDone c s self result }
     {
         let Work {
             command,
@@ -155,7 +155,7 @@ fn read(pieces: Vec<Piece>, reply: Bytes) -> Worked
 // What a write of bytes leaves.
 fn written(pieces: Vec<Piece>, reply: Bytes, bytes: &[u8]) -> Worked
     requires { IsWritable pieces.items reply (length bytes.now) }
-    ensures { Leaves result (only_status Status.Ok) (map (with_bytes bytes.now) (region_bytes pieces.items)) }
+    ensures { Leaves result (only_status Status.Ok) (map (piece_holding bytes.now) (region_bytes pieces.items)) }
 {
     let mut pieces = pieces;
     write(&mut pieces, bytes);
@@ -166,7 +166,7 @@ fn written(pieces: Vec<Piece>, reply: Bytes, bytes: &[u8]) -> Worked
 fn filled(pieces: Vec<Piece>, reply: Bytes, value: u8) -> Worked
     requires { (len : ℕ) × IsWritable pieces.items reply len }
     ensures { (len : ℕ) → byte_counts (region_bytes pieces.items) ≡ len ∷ []
-        → Leaves result (only_status Status.Ok) (map (with_bytes (replicate len value)) (region_bytes pieces.items)) }
+        → Leaves result (only_status Status.Ok) (map (piece_holding (replicate len value)) (region_bytes pieces.items)) }
 {
     let mut pieces = pieces;
     fill(&mut pieces, value);

@@ -14,7 +14,7 @@ use Rattle.script_line.specs.Line.{Line, send_line}
 use Rattle.script_line.specs.Sized.{AreSized, IsSized, IsSizedLine, IsSizedSource}
 use Rattle.script_line.specs.declared.version.Version.TheVariants as version
 use Rattle.script_cmds.specs.Progress.{names_queues}
-use Rattle.load_maker.specs.Load.{kind_command, same_bytes, take_line, word_command}
+use Rattle.load_maker.specs.Load.{kind_command, same_bytes, take_reply_line, word_command}
 
 -- a fact of both sides of a choice
 of_either : (P : Command → Type 0) (test : Bool) (a b : Command) → P a → P b → P (if test then a else b)
@@ -73,7 +73,7 @@ pub command_names : (cid word : ℕ) → names_queues 1 (send_line version.One c
 command_names cid word =
     of_kinds (λ sent. names_queues 1 (send_line version.One cid sent).values ≡ true) (word % 8) (word / 8 % 65536) (word / 2 ^ 32 % 256) refl refl refl refl refl refl refl refl
 
-pub take_fits : (cid : ℕ) → cid < 16 → line_fits (take_line cid) ≡ true
+pub take_fits : (cid : ℕ) → cid < 16 → line_fits (take_reply_line cid) ≡ true
 take_fits cid low = rw (below 0 cid (omega arith), below cid 65535 (omega arith)) refl
 
 -- ---- sizes
@@ -118,5 +118,5 @@ kind_sized cid kind place value low small =
 pub command_sized : (cid word : ℕ) → cid < 16 → IsSizedLine (send_line version.One cid (word_command word))
 command_sized cid word low = (kind_sized cid (word % 8) (word / 8 % 65536) (word / 2 ^ 32 % 256) low (omega arith)).all
 
-pub take_sized : (cid : ℕ) → cid < 16 → IsSizedLine (take_line cid)
+pub take_sized : (cid : ℕ) → cid < 16 → IsSizedLine (take_reply_line cid)
 take_sized cid low = All-cons IsSized (Count cid) [] (omega arith) (All-nil IsSized)

@@ -21,7 +21,7 @@ use Rattle.script_cmds.specs.declared.progress.Stage.TheVariants as stage
 use Rattle.script_cmds.specs.Fault.{after_lines, judged}
 use Rattle.script_cmds.specs.Progress.{start}
 use Rattle.script_cmds.specs.Text.{numbers_line}
-use Rattle.load_maker.specs.Load.{device_lines, host_line, host_part, host_turns, load_lines, ready_lines, seed_word, take_line, turn_lines, turn_takes, word_command, work_lines}
+use Rattle.load_maker.specs.Load.{device_lines, host_line, host_part, host_turns, load_lines, ready_lines, seed_word, take_reply_line, turn_lines, turn_takes, word_command, work_lines}
 use Rattle.load_maker.proofs.Fits.{command_fits, command_names, command_sized, take_fits, take_sized}
 use Rattle.load_maker.proofs.Turns.{own_lines}
 
@@ -64,11 +64,11 @@ send_runs host sends cid word low few =
     let names = command_names cid word in
     rw (fits, room, names) refl
 
-take_runs : (host sends cid : ℕ) → cid < 16 → after_lines (working host sends) (take_line cid ∷ []) ≡ Ok (working host sends)
+take_runs : (host sends cid : ℕ) → cid < 16 → after_lines (working host sends) (take_reply_line cid ∷ []) ≡ Ok (working host sends)
 take_runs host sends cid low = let fits = take_fits cid low in rw fits refl
 
 takes_run : (host sends number : ℕ) (test : Bool)
-    → after_lines (working host sends) (if test then [] else take_line (number % 16) ∷ []) ≡ Ok (working host sends)
+    → after_lines (working host sends) (if test then [] else take_reply_line (number % 16) ∷ []) ≡ Ok (working host sends)
 takes_run host sends number true = refl
 takes_run host sends number false = take_runs host sends (number % 16) (omega arith)
 

@@ -14,7 +14,7 @@ use Rattle.script_line.proofs.Sends.{send_shape}
 use Rattle.script_line.specs.declared.version.Version.TheVariants as version
 use Rattle.script_cmds.specs.Fault.{newlines}
 use Rattle.script_cmds.specs.Text.{lines_text, numbers_line}
-use Rattle.load_maker.specs.Load.{device_lines, host_line, host_part, host_turns, load_lines, load_text, ready_lines, seed_word, take_line, turn_lines, turn_takes, word_command}
+use Rattle.load_maker.specs.Load.{device_lines, host_line, host_part, host_turns, load_lines, load_text, ready_lines, seed_word, take_reply_line, turn_lines, turn_takes, word_command}
 use Rattle.load_maker.proofs.Fits.{command_sized, take_sized}
 use Rattle.load_maker.proofs.Planned.{not_true}
 use Rattle.load_maker.proofs.Printed.{lines_text-append}
@@ -46,9 +46,9 @@ join xs ys p q =
     ap newlines (lines_text-append xs ys) ∙ newlines-append (lines_text xs) (lines_text ys) ∙ ap (λ (k : ℕ). k + newlines (lines_text ys)) p
     ∙ ap (λ (k : ℕ). length xs + k) q ∙ sym (length-append xs ys)
 
-takes_counted : (number : ℕ) (test : Bool) → IsCounted (if test then [] else take_line (number % 16) ∷ [])
+takes_counted : (number : ℕ) (test : Bool) → IsCounted (if test then [] else take_reply_line (number % 16) ∷ [])
 takes_counted number true = refl
-takes_counted number false = one (take_line (number % 16)) (record { shape = tt; sized = take_sized (number % 16) (omega arith) })
+takes_counted number false = one (take_reply_line (number % 16)) (record { shape = tt; sized = take_sized (number % 16) (omega arith) })
 
 own_counted : (number word : ℕ) (test : Bool) → IsCounted (if test then turn_lines number (word_command word) else [])
 own_counted number word true =
@@ -70,7 +70,7 @@ part_counted seed n host low =
     (one (host_line (host + 1)) (record { shape = tt; sized = All-cons IsSized (Count (host + 1)) [] small (All-nil IsSized) }))
     (turns_counted seed host n)
 
-takes_few : (number : ℕ) (test : Bool) → length (if test then [] else take_line (number % 16) ∷ []) ≤ 1
+takes_few : (number : ℕ) (test : Bool) → length (if test then [] else take_reply_line (number % 16) ∷ []) ≤ 1
 takes_few number true = omega arith
 takes_few number false = omega arith
 

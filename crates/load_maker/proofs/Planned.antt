@@ -11,7 +11,7 @@ use Rattle.script_cmds.specs.declared.item.Item.TheVariants as item
 use Rattle.script_cmds.specs.declared.item.HostPart.{HostPart}
 use Rattle.script_cmds.specs.declared.item.Phase as declared
 use Rattle.script_cmds.specs.declared.script.Script.{Script}
-use Rattle.script_cmds.specs.Queues.{queue_of}
+use Rattle.script_cmds.specs.Queues.{queue_of_cid}
 use Rattle.script_cmds.specs.Text.{lines_of, script_text}
 use Rattle.script_line.specs.Sized.{AreSized}
 use Rattle.history_model.specs.Plan.{PlanFault, both_planned, in_queue, is_outstanding, plan_of, lines_of_parts, planned_items, planned_parts, planned_phases, then_plan}
@@ -43,7 +43,7 @@ pass_both : (a b c : List ℕ) (xs ys : List Item) → Passes a xs b → Passes 
 pass_both a b c xs ys p q line rest h =
     subst (λ (zs : List Item). IsPlanned (planned_items 16 line a zs)) (sym (append_assoc xs ys rest)) (p line (ys ++ rest) (λ number. q number rest h))
 
-send_passes : (out : List ℕ) (cid : ℕ) (sent : Command) → nat_le 16 (in_queue (queue_of cid) out) ≡ false → is_outstanding cid out ≡ false
+send_passes : (out : List ℕ) (cid : ℕ) (sent : Command) → nat_le 16 (in_queue (queue_of_cid cid) out) ≡ false → is_outstanding cid out ≡ false
     → Passes out (sending cid sent ∷ []) (out ++ cid ∷ [])
 send_passes out cid sent room free line rest h =
     rw (room, free) (then_planned (λ more. sending cid sent ∷ more) (planned_items 16 (line + 1) (out ++ cid ∷ []) rest) (h (line + 1)))
@@ -85,14 +85,14 @@ all_below test (suc n) h k low =
 -- whether a send passes before the identifiers are used up
 passes_early : ℕ → Bool
 passes_early k =
-    not (nat_le 16 (in_queue (queue_of k) (take k identifiers)))
+    not (nat_le 16 (in_queue (queue_of_cid k) (take k identifiers)))
     && (not (is_outstanding k (take k identifiers)) && bytes_eq (take k identifiers ++ k ∷ []) (queue (k + 1)))
 
 -- whether a take and a send pass afterwards
 passes_late : ℕ → Bool
 passes_late r =
     is_outstanding r (full_queue r)
-    && (not (nat_le 16 (in_queue (queue_of r) (left r (full_queue r))))
+    && (not (nat_le 16 (in_queue (queue_of_cid r) (left r (full_queue r))))
     && (not (is_outstanding r (left r (full_queue r))) && bytes_eq (left r (full_queue r) ++ r ∷ []) (full_queue ((r + 1) % 16))))
 
 all_early : check_below passes_early 16 ≡ true
@@ -114,7 +114,7 @@ early_passes : (k : ℕ) (sent : Command) → k < 16 → Passes (take k identifi
 unfolding passes_early
 early_passes k sent low =
     let held = all_below passes_early 16 all_early k low in
-    let first = and_parts (not (nat_le 16 (in_queue (queue_of k) (take k identifiers)))) _ held in
+    let first = and_parts (not (nat_le 16 (in_queue (queue_of_cid k) (take k identifiers)))) _ held in
     let second = and_parts (not (is_outstanding k (take k identifiers))) _ first.1 in
     subst (λ (after : List ℕ). Passes (take k identifiers) (sending k sent ∷ []) after) (same_bytes_are _ _ second.1)
     (send_passes (take k identifiers) k sent (not_true _ first.0) (not_true _ second.0))
@@ -125,7 +125,7 @@ late_passes r sent low =
     let held = all_below passes_late 16 all_late r low in
     let out = full_queue r in
     let first = and_parts (is_outstanding r out) _ held in
-    let second = and_parts (not (nat_le 16 (in_queue (queue_of r) (left r out)))) _ first.1 in
+    let second = and_parts (not (nat_le 16 (in_queue (queue_of_cid r) (left r out)))) _ first.1 in
     let third = and_parts (not (is_outstanding r (left r out))) _ second.1 in
     pass_both out (left r out) (full_queue ((r + 1) % 16)) (item.Take r ∷ []) (sending r sent ∷ []) (take_passes out r first.0)
     (subst (λ (after : List ℕ). Passes (left r out) (sending r sent ∷ []) after) (same_bytes_are _ _ third.1)

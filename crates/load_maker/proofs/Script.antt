@@ -19,7 +19,7 @@ use Rattle.script_cmds.specs.Kept.{KeepsOrderAndLimits}
 use Rattle.script_cmds.specs.Progress.{start}
 use Rattle.script_cmds.specs.Text.{item_line, item_lines, lines_of, lines_text, numbers_line, script_text}
 use Rattle.script_cmds.proofs.OneText.{accepted, one_text}
-use Rattle.load_maker.specs.Load.{device_lines, first_set, host_line, host_turns, load_lines, load_text, ready_lines, ready_slot, second_set, seed_word, take_line, turn_lines, whole_program, word_command}
+use Rattle.load_maker.specs.Load.{device_lines, first_set, host_line, host_turns, load_lines, load_text, ready_lines, ready_slot, second_set, seed_word, take_reply_line, turn_lines, whole_program, word_command}
 use Rattle.load_maker.proofs.Kept.{load_device, load_runs, one_queue}
 use Rattle.load_maker.proofs.Sizes.{load_sized}
 
@@ -70,7 +70,7 @@ item_lines-append [] ys = refl
 item_lines-append (x ∷ xs) ys = ap (λ (t : List Line). item_line one_queue x ∷ t) (item_lines-append xs ys)
 
 takes_lines : (number : ℕ) (test : Bool)
-    → item_lines one_queue (if test then [] else item.Take (number % 16) ∷ []) ≡ (if test then [] else take_line (number % 16) ∷ [])
+    → item_lines one_queue (if test then [] else item.Take (number % 16) ∷ []) ≡ (if test then [] else take_reply_line (number % 16) ∷ [])
 takes_lines number true = refl
 takes_lines number false = refl
 

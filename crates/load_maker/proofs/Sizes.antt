@@ -11,7 +11,7 @@ use Rattle.script_line.specs.Sized.{AreSized, IsSized, IsSizedLine, IsSizedRange
 use Rattle.script_line.specs.declared.kind.LineKind.TheVariants as line
 use Rattle.script_line.specs.declared.version.Version.TheVariants as version
 use Rattle.script_cmds.specs.Text.{numbers_line}
-use Rattle.load_maker.specs.Load.{device_lines, host_line, host_part, host_turns, load_lines, ready_lines, seed_word, take_line, turn_lines, turn_takes, word_command, work_lines}
+use Rattle.load_maker.specs.Load.{device_lines, host_line, host_part, host_turns, load_lines, ready_lines, seed_word, take_reply_line, turn_lines, turn_takes, word_command, work_lines}
 use Rattle.load_maker.proofs.Fits.{command_sized, take_sized}
 use Rattle.load_maker.proofs.Turns.{own_lines}
 
@@ -70,9 +70,9 @@ one l s = All-cons IsSizedLine l [] s none
 join : (xs ys : List Line) → AreSized xs → AreSized ys → AreSized (xs ++ ys)
 join xs ys p q = All-append IsSizedLine xs ys p q
 
-takes_sized : (number : ℕ) (test : Bool) → AreSized (if test then [] else take_line (number % 16) ∷ [])
+takes_sized : (number : ℕ) (test : Bool) → AreSized (if test then [] else take_reply_line (number % 16) ∷ [])
 takes_sized number true = none
-takes_sized number false = one (take_line (number % 16)) (take_sized (number % 16) (omega arith))
+takes_sized number false = one (take_reply_line (number % 16)) (take_sized (number % 16) (omega arith))
 
 turn_sized : (number word : ℕ) → AreSized (turn_lines number (word_command word))
 turn_sized number word =

@@ -71,20 +71,20 @@ kind_command kind place value =
 abbrev pub word_command : ℕ → Command
 word_command word = kind_command (word % 8) (word / 8 % 65536) (word / 2 ^ 32 % 256)
 
-abbrev pub take_line : ℕ → Line
-take_line cid = numbers_line (line.Take version.One) (cid ∷ [])
+abbrev pub take_reply_line : ℕ → Line
+take_reply_line cid = numbers_line (line.Take version.One) (cid ∷ [])
 
 abbrev pub host_line : ℕ → Line
 host_line host = numbers_line line.Host (host ∷ [])
 
 -- a command and the take of its reply
 abbrev pub done_lines : ℕ → Command → List Line
-done_lines cid sent = send_line version.One cid sent ∷ take_line cid ∷ []
+done_lines cid sent = send_line version.One cid sent ∷ take_reply_line cid ∷ []
 
 -- What a host takes before its command of a number, from 0 on: there are sixteen identifiers, so from command 16 on
 -- the reply to the command sixteen before.
 abbrev pub turn_takes : ℕ → List Line
-turn_takes number = if nat_lt number 16 then [] else take_line (number % 16) ∷ []
+turn_takes number = if nat_lt number 16 then [] else take_reply_line (number % 16) ∷ []
 
 -- a host's command under its number
 abbrev pub turn_lines : ℕ → Command → List Line

@@ -6,7 +6,7 @@ ghost use Rattle.script_line.specs.Field.{IsShaped};
 ghost use Rattle.script_line.specs.Sized.{AreSized};
 ghost use Rattle.script_line.specs.declared.kind.LineKind.TheVariants as line_kind;
 ghost use Rattle.script_cmds.specs.Text.{numbers_line};
-ghost use Rattle.load_maker.specs.Load.{device_lines, done_lines, first_set, host_line, host_part, host_turns, load_lines, load_text, open_range, ready_lines, ready_slot, second_set, seed_state, seed_word, take_line, turn_lines, turn_takes, whole_program, word_command, work_lines};
+ghost use Rattle.load_maker.specs.Load.{device_lines, done_lines, first_set, host_line, host_part, host_turns, load_lines, load_text, open_range, ready_lines, ready_slot, second_set, seed_state, seed_word, take_reply_line, turn_lines, turn_takes, whole_program, word_command, work_lines};
 ghost use Rattle.load_maker.specs.Made.{PrintsLines};
 
 use crate::command::command_of;

@@ -15,7 +15,7 @@ use Rattle.script_plan.proofs.Counting.{length-phase_lines, length-sends_of, sen
 use Rattle.history_model.specs.Sent.{sends_of}
 use Rattle.history_model.proofs.Every.{every-All, every-of-All, every-weaker}
 use Rattle.history_check.specs.FirstBad.{BeginLegally, IsFirstBad, IsLegalText, lines_in}
-use Rattle.history_check.specs.Verdict.{AreShown, IsInside}
+use Rattle.history_check.specs.Verdict.{AreShown, IsShowInside}
 use Rattle.history_check.proofs.Scripts.{shows-sized}
 use Rattle.nvmecp.specs.Shown.{AreInside}
 use Rattle.nvmecp.proofs.Printed.{legal_alike}
@@ -66,6 +66,6 @@ few_lines script phases commands few is same =
 pub are_shown : (script : Script) → AreSized (lines_of script) → AreInside script.config script.shows → AreShown script.config script.shows
 are_shown script sized inside =
     shows-sized script sized
-    (every-All (IsInside script.config) script.shows
-    (every-weaker (λ (show : Show). (show.range.len ≤ MAX_TRANSFER) × (show.range.start + show.range.len ≤ unwrap_or (size_of script.config show.range.space) 0)) (IsInside script.config) (λ show is. is.1) script.shows
+    (every-All (IsShowInside script.config) script.shows
+    (every-weaker (λ (show : Show). (show.range.len ≤ MAX_TRANSFER) × (show.range.start + show.range.len ≤ unwrap_or (size_of script.config show.range.space) 0)) (IsShowInside script.config) (λ show is. is.1) script.shows
     (every-of-All (λ (show : Show). (show.range.len ≤ MAX_TRANSFER) × (show.range.start + show.range.len ≤ unwrap_or (size_of script.config show.range.space) 0)) script.shows inside)))

@@ -13,7 +13,7 @@ use Rattle.history_model.specs.Plan.{PlanFault, plan_of}
 use Rattle.history_model.specs.Sent.{sends_of}
 use Rattle.history_check.specs.FirstBad.{IsFirstBad, IsLegalText}
 use Rattle.script_plan.specs.Meant.{meant}
-use Rattle.nvmecp.specs.Check.{IsIllegalFor, IsLegalFor, IsPlanned, JudgesBad, JudgesLegal, TellsBad, TellsLegal, bad_line, legal_line}
+use Rattle.nvmecp.specs.Check.{IsIllegalFor, IsLegalFor, IsPlannedText, JudgesBad, JudgesLegal, TellsBad, TellsLegal, bad_line, legal_line}
 use Rattle.nvmecp.specs.Ends.{EndsAnswered, EndsDenied, EndsOn, EndsRefused}
 use Rattle.nvmecp.specs.Step.{HasNoPlan, HasPlan, IsTextOf, TellsScript}
 use Rattle.nvmecp.specs.declared.ending.Ending.{Ending}
@@ -67,7 +67,7 @@ module _ (text history : List ℕ) (script : Script) (phases : List Phase) (r : 
   sends_alike : sends_of the_plan.given ≡ sends_of phases
   sends_alike = r.given the_plan.given the_plan.is
 
-  is_planned : IsPlanned text
+  is_planned : IsPlannedText text
   is_planned = record { faultless = r.faultless; script = script; read = r.read; plan = the_plan.given; planned = the_plan.is }
 
   tells_legal : (line : List ℕ) → JudgesLegal script.config phases script.shows history line → TellsLegal line text history

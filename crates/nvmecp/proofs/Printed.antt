@@ -35,7 +35,7 @@ use Rattle.schedule_model.specs.Told.{TellsPlan}
 use Rattle.nvmecp.specs.Finished.{IsFinished, printed_text}
 use Rattle.nvmecp.specs.Lines.{ended_lines, shown_lines}
 use Rattle.nvmecp.specs.Make.{SumsUp, load_workers}
-use Rattle.nvmecp.specs.Shown.{AreShort, IsAtHome}
+use Rattle.nvmecp.specs.Shown.{AreShort, IsAllAtHome}
 use Rattle.nvmecp.specs.Serve.{IsPrintOfHosts}
 use Rattle.nvmecp.specs.Step.{IsPrintOf, IsPrintOfTrail}
 use Rattle.nvmecp.specs.Summed.{Sums}
@@ -169,7 +169,7 @@ at_home_after c phases trail lawful told space offset below =
     let size : length bytes ≡ unwrap_or (size_of c space) 0 = ap (λ (s : State). length (bytes_of s.contents space)) told.last ∙ fits.sizes space in
     subst (λ (o : Option ℕ). IsSome o) (sym (told.at_home space offset)) (some_within bytes offset (omega (arith, size, below)))
 
-pub at_home_of : (c : Configuration) (phases : List Phase) (f : Finished) → IsFinished c phases f → IsAtHome f.core
+pub at_home_of : (c : Configuration) (phases : List Phase) (f : Finished) → IsFinished c phases f → IsAllAtHome f.core
 at_home_of c phases f h =
     subst (λ (x : Configuration). AtHomeAfter x f.core.trail) (sym h.config)
     (at_home_after c phases f.core.trail h.lawful (told_by c phases f h))

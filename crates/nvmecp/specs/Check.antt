@@ -58,7 +58,7 @@ pub record OfParts (Holds : List ℕ → List ℕ → Type 0) (input : List ℕ)
 -- ---- the history
 
 -- A text is that of a script which has a plan.
-pub record IsPlanned (text : List ℕ) : Type 0 where
+pub record IsPlannedText (text : List ℕ) : Type 0 where
   pub faultless : first_fault text ≡ None
   pub script : Script
   pub read : IsTextOf script text
@@ -67,13 +67,13 @@ pub record IsPlanned (text : List ℕ) : Type 0 where
 
 -- A history is that of a device which carries out the plan of a script one command after the other, and the line tells it.
 pub record TellsLegal (line : List ℕ) (text history : List ℕ) : Type 0 where
-  pub of : IsPlanned text
+  pub of : IsPlannedText text
   pub legal : IsLegalText of.script.config of.plan of.script.shows history
   pub told : line ≡ legal_line
 
 -- A history is that of no such device, and the line tells its first bad line.
 pub record TellsBad (line : List ℕ) (text history : List ℕ) : Type 0 where
-  pub of : IsPlanned text
+  pub of : IsPlannedText text
   pub number : ℕ
   pub bad : IsFirstBad of.script.config of.plan of.script.shows history number
   pub told : line ≡ bad_line number

@@ -12,7 +12,7 @@ use Rattle.device_core.specs.Gives.{world_in}
 use Rattle.device_core.specs.Recorded.{Recorded}
 use Rattle.schedule_model.specs.Told.{TellsPlan}
 use Rattle.nvmecp.specs.Lines.{ended_lines, shown_lines}
-use Rattle.nvmecp.specs.Shown.{HasRoom}
+use Rattle.nvmecp.specs.Shown.{HasRoomFor}
 use Rattle.nvmecp.specs.declared.finished.Finished.{Finished}
 
 -- The device has carried out these phases by lawful events, and tells them; there is room for each line, and for the bytes
@@ -21,8 +21,8 @@ pub record IsFinished (c : Configuration) (phases : List Phase) (f : Finished) :
   pub config : f.core.config ≡ c
   pub lawful : IsLawful c (length (sends_of phases)) f.core.trail
   pub told : TellsPlan c phases (world_in f.core)
-  pub line : HasRoom LONGEST_LINE f.line
-  pub shown : HasRoom MAX_TRANSFER f.shown
+  pub line : HasRoomFor LONGEST_LINE f.line
+  pub shown : HasRoomFor MAX_TRANSFER f.shown
 
 -- what is printed of a device and of shows
 abbrev pub printed_text : Recorded → List Show → List ℕ

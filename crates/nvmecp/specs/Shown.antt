@@ -19,9 +19,9 @@ abbrev pub AreInside : Configuration → List Show → Type 0
 AreInside c shows = All (λ (show : Show). (show.range.len ≤ MAX_TRANSFER) × (show.range.start + show.range.len ≤ unwrap_or (size_of c show.range.space) 0)) shows
 
 -- each byte of each namespace is at home
-abbrev pub IsAtHome : Recorded → Type 0
-IsAtHome d = (space : SpaceId) (offset : ℕ) → offset < unwrap_or (size_of d.config space) 0 → IsSome (home d.config (world_in d) space offset)
+abbrev pub IsAllAtHome : Recorded → Type 0
+IsAllAtHome d = (space : SpaceId) (offset : ℕ) → offset < unwrap_or (size_of d.config space) 0 → IsSome (home d.config (world_in d) space offset)
 
 -- there is room for this many bytes once the buffer is cleared
-abbrev pub HasRoom : ℕ → Buffer → Type 0
-HasRoom most buffer = most ≤ length buffer.items + buffer.spare
+abbrev pub HasRoomFor : ℕ → Buffer → Type 0
+HasRoomFor most buffer = most ≤ length buffer.items + buffer.spare

@@ -33,9 +33,9 @@ abbrev pub errand_of : List (List ℕ) → Option Errand
 errand_of words = option_and_then errand_by (order_of words)
 
 -- what is asked of an input
-abbrev pub asked_in : Errand → Option Asked
-asked_in (errand.Answer question) = Some question
-asked_in (errand.Make load) = None
+abbrev pub question_in : Errand → Option Asked
+question_in (errand.Answer question) = Some question
+question_in (errand.Make load) = None
 
 -- the load that is to be made
 abbrev pub load_in : Errand → Option Load
@@ -44,7 +44,7 @@ load_in (errand.Make load) = Some load
 
 -- what the words ask of an input; None where they are wrong, or want none
 abbrev pub asked_of : List (List ℕ) → Option Asked
-asked_of words = option_and_then asked_in (errand_of words)
+asked_of words = option_and_then question_in (errand_of words)
 
 -- the load that the words ask for; None where they are wrong, or want an input
 abbrev pub load_of : List (List ℕ) → Option Load

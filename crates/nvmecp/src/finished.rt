@@ -2,7 +2,7 @@
 ghost use Rattle.std.specs.Prelude.{IfOk};
 ghost use Rattle.cp_base.specs.declared.limits.TheConstants.{MAX_TRANSFER};
 ghost use Rattle.replay_print.specs.declared.laws.TheConstants.{LONGEST_LINE};
-ghost use Rattle.nvmecp.specs.Shown.{HasRoom};
+ghost use Rattle.nvmecp.specs.Shown.{HasRoomFor};
 
 use cp_base::{Bytes, MAX_TRANSFER, NoMemory};
 use device_core::Core;
@@ -19,7 +19,7 @@ pub struct Finished {
 
 /// A buffer with room for each line.
 pub fn line_buffer(alloc: Global) -> Result<Bytes, NoMemory>
-    ensures { IfOk result (HasRoom LONGEST_LINE) }
+    ensures { IfOk result (HasRoomFor LONGEST_LINE) }
 {
     let mut line = Bytes::new(alloc);
     line.reserve(LONGEST_LINE)?;
@@ -28,7 +28,7 @@ pub fn line_buffer(alloc: Global) -> Result<Bytes, NoMemory>
 
 /// A buffer with room for the bytes of each show.
 pub fn show_buffer(alloc: Global) -> Result<Bytes, NoMemory>
-    ensures { IfOk result (HasRoom MAX_TRANSFER) }
+    ensures { IfOk result (HasRoomFor MAX_TRANSFER) }
 {
     let mut shown = Bytes::new(alloc);
     shown.reserve(MAX_TRANSFER)?;

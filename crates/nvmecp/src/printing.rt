@@ -12,7 +12,7 @@ ghost use Rattle.device_core.specs.Gives.{ended_as_shown, world_in};
 ghost use Rattle.nvmecp.specs.Ends.{EndsAnswered};
 ghost use Rattle.nvmecp.specs.Finished.{printed_text};
 ghost use Rattle.nvmecp.specs.Lines.{ended_line, ended_lines, shown_lines};
-ghost use Rattle.nvmecp.specs.Shown.{AreInside, AreShort, HasRoom, IsAtHome};
+ghost use Rattle.nvmecp.specs.Shown.{AreInside, AreShort, HasRoomFor, IsAllAtHome};
 
 use crate::ending::Ending;
 use crate::finished::Finished;
@@ -29,9 +29,9 @@ fn print_entry<K: Sink>(
     k: u32,
     entry: &EntryRef<'_>,
 ) -> Result<(), WriteFault>
-    requires room { HasRoom LONGEST_LINE line.old }
+    requires room { HasRoomFor LONGEST_LINE line.old }
     requires short { length entry.now.reply.now.bytes.items ≤ MAX_TRANSFER }
-    ensures room { HasRoom LONGEST_LINE line.new }
+    ensures room { HasRoomFor LONGEST_LINE line.new }
     ensures all { OnOk result (Appends (K.held sink.old) (K.held sink.new) (ended_line k (ended_as_shown entry.now))) }
     ensures front { OnErr result (AppendsFront (K.held sink.old) (K.held sink.new) (ended_line k (ended_as_shown entry.now))) }
     ensures fault { OnErr result (Rose (K.faults sink.old) (K.faults sink.new)) }
@@ -55,9 +55,9 @@ fn print_entry<K: Sink>(
 
 // Writes the lines of the commands that are over, in the order in which they ended.
 fn print_entries<K: Sink>(sink: &mut K, line: &mut Bytes, core: &Core) -> Result<(), WriteFault>
-    requires room { HasRoom LONGEST_LINE line.old }
+    requires room { HasRoomFor LONGEST_LINE line.old }
     requires short { AreShort (world_in core.now).history }
-    ensures room { HasRoom LONGEST_LINE line.new }
+    ensures room { HasRoomFor LONGEST_LINE line.new }
     ensures all { OnOk result (Appends (K.held sink.old) (K.held sink.new) (concat (ended_lines 1 (world_in core.now).history))) }
     ensures front { OnErr result (AppendsFront (K.held sink.old) (K.held sink.new) (concat (ended_lines 1 (world_in core.now).history))) }
     ensures fault { OnErr result (Rose (K.faults sink.old) (K.faults sink.new)) }
@@ -80,13 +80,13 @@ fn print_show<K: Sink>(
     core: &Core,
     show: &Show,
 ) -> Result<(), WriteFault>
-    requires room { HasRoom LONGEST_LINE line.old }
-    requires bytes { HasRoom MAX_TRANSFER shown.old }
+    requires room { HasRoomFor LONGEST_LINE line.old }
+    requires bytes { HasRoomFor MAX_TRANSFER shown.old }
     requires short { show.now.range.len ≤ MAX_TRANSFER }
     requires inside { show.now.range.start + show.now.range.len ≤ unwrap_or (size_of core.now.config show.now.range.space) 0 }
-    requires home { IsAtHome core.now }
-    ensures room { HasRoom LONGEST_LINE line.new }
-    ensures bytes { HasRoom MAX_TRANSFER shown.new }
+    requires home { IsAllAtHome core.now }
+    ensures room { HasRoomFor LONGEST_LINE line.new }
+    ensures bytes { HasRoomFor MAX_TRANSFER shown.new }
     ensures all { OnOk result (Appends (K.held sink.old) (K.held sink.new) (shown_text show.now (bytes_in (world_in core.now).state.contents show.now.range))) }
     ensures front { OnErr result (AppendsFront (K.held sink.old) (K.held sink.new) (shown_text show.now (bytes_in (world_in core.now).state.contents show.now.range))) }
     ensures fault { OnErr result (Rose (K.faults sink.old) (K.faults sink.new)) }
@@ -109,10 +109,10 @@ fn print_shows<K: Sink>(
     core: &Core,
     shows: &[Show],
 ) -> Result<(), WriteFault>
-    requires room { HasRoom LONGEST_LINE line.old }
-    requires bytes { HasRoom MAX_TRANSFER shown.old }
+    requires room { HasRoomFor LONGEST_LINE line.old }
+    requires bytes { HasRoomFor MAX_TRANSFER shown.old }
     requires inside { AreInside core.now.config shows.now }
-    requires home { IsAtHome core.now }
+    requires home { IsAllAtHome core.now }
     ensures all { OnOk result (Appends (K.held sink.old) (K.held sink.new) (concat (shown_lines (world_in core.now).state.contents shows.now))) }
     ensures front { OnErr result (AppendsFront (K.held sink.old) (K.held sink.new) (concat (shown_lines (world_in core.now).state.contents shows.now))) }
     ensures fault { OnErr result (Rose (K.faults sink.old) (K.faults sink.new)) }
@@ -126,11 +126,11 @@ fn print_shows<K: Sink>(
 
 /// Writes the line of each command that is over, and then the line of each show.
 pub fn print<K: Sink>(sink: &mut K, finished: Finished, shows: &[Show]) -> Result<(), WriteFault>
-    requires line { HasRoom LONGEST_LINE finished.line }
-    requires bytes { HasRoom MAX_TRANSFER finished.shown }
+    requires line { HasRoomFor LONGEST_LINE finished.line }
+    requires bytes { HasRoomFor MAX_TRANSFER finished.shown }
     requires short { AreShort (world_in finished.core).history }
     requires inside { AreInside finished.core.config shows.now }
-    requires home { IsAtHome finished.core }
+    requires home { IsAllAtHome finished.core }
     ensures all { OnOk result (Appends (K.held sink.old) (K.held sink.new) (printed_text finished.core shows.now)) }
     ensures front { OnErr result (AppendsFront (K.held sink.old) (K.held sink.new) (printed_text finished.core shows.now)) }
     ensures fault { OnErr result (Rose (K.faults sink.old) (K.faults sink.new)) }

@@ -7,15 +7,15 @@ use Rattle.cp_base.specs.declared.region.SpaceId.TheVariants.{Mem}
 use Rattle.cp_base.specs.declared.spans.Footprint.{Footprint}
 use Rattle.range_claims.specs.Kept.{KeptClaims, footprint_under, is_kept, without_key}
 use Rattle.range_claims.specs.declared.claims.Claim.{Claim}
-use Rattle.parts_bench.specs.Parts.{asked_of, claims_of, footprint_at, strided}
+use Rattle.parts_bench.specs.Parts.{claims_of, footprint_at, footprints_between, strided}
 
 pub length-claims_of : (reads writes n : ℕ) → length (claims_of reads writes n) ≡ n
 length-claims_of reads writes zero = refl
 length-claims_of reads writes (suc n) = length-append (claims_of reads writes n) _ ∙ omega (arith, length-claims_of reads writes n)
 
-pub length-asked_of : (writes n : ℕ) → length (asked_of writes n) ≡ n
+pub length-asked_of : (writes n : ℕ) → length (footprints_between writes n) ≡ n
 length-asked_of writes zero = refl
-length-asked_of writes (suc n) = length-append (asked_of writes n) _ ∙ omega (arith, length-asked_of writes n)
+length-asked_of writes (suc n) = length-append (footprints_between writes n) _ ∙ omega (arith, length-asked_of writes n)
 
 -- whether one of two is so, where the second decides
 later_false : (b c d : Bool) → (b || c) ≡ false → (c ≡ false → d ≡ false) → (b || d) ≡ false
@@ -92,11 +92,11 @@ claims_more reads writes n claims new footprint before is added =
     ∙ ap (λ (f : Footprint). of (claims_of reads writes n ++ record { key = n; footprint = f } ∷ [])) is
     ∙ sym (ap (λ (k : ℕ). of (claims_of reads writes k)) next)
 
-pub asked_more : (writes n : ℕ) (items : List Footprint) (footprint : Footprint) → items ≡ asked_of writes n → footprint ≡ footprint_at (64 * n + 32) 0 writes
-    → items ++ footprint ∷ [] ≡ asked_of writes (n + 1)
+pub asked_more : (writes n : ℕ) (items : List Footprint) (footprint : Footprint) → items ≡ footprints_between writes n → footprint ≡ footprint_at (64 * n + 32) 0 writes
+    → items ++ footprint ∷ [] ≡ footprints_between writes (n + 1)
 asked_more writes n items footprint before is =
     let next : n + 1 ≡ suc n = omega arith in
-    ap (λ (all : List Footprint). all ++ footprint ∷ []) before ∙ ap (λ (f : Footprint). asked_of writes n ++ f ∷ []) is ∙ sym (ap (λ (k : ℕ). asked_of writes k) next)
+    ap (λ (all : List Footprint). all ++ footprint ∷ []) before ∙ ap (λ (f : Footprint). footprints_between writes n ++ f ∷ []) is ∙ sym (ap (λ (k : ℕ). footprints_between writes k) next)
 
 -- a round more
 pub rounds_more : (rounds each done : ℕ) → done ≡ rounds * each → done + each ≡ (rounds + 1) * each

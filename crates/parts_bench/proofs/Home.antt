@@ -13,7 +13,7 @@ use Rattle.cp_base.specs.declared.limits.TheConstants.{MAX_NAMESPACE}
 use Rattle.cp_base.specs.declared.region.SpaceId.{SpaceId}
 use Rattle.cp_base.specs.declared.region.SpaceId.TheVariants.{Mem}
 use Rattle.extents.specs.Homes.{AreBytesAt, Homes, IsAtHome, IsBroughtBack, IsTakenAway, is_hole, known_at}
-use Rattle.parts_bench.specs.Parts.{AreHome, range_len, range_of, range_start}
+use Rattle.parts_bench.specs.Parts.{AreHome, range_len, range_of, selected_start}
 use Rattle.parts_bench.specs.declared.workload.Places.{Places}
 use Rattle.parts_bench.specs.declared.workload.Places.TheVariants.{Anywhere, Aligned, Ascending, Lone}
 
@@ -26,7 +26,7 @@ all_home size homes c is zero = λ offset h.
     let known : known_at homes (Mem 1) offset ≡ slice_get bytes offset = zero (Mem 1) offset ∙ ap (λ (d : Configuration). slice_get (bytes_of (all_zero d) (Mem 1)) offset) is in
     subst (λ (byte : Option ℕ). IsSome byte) (sym (known ∙ there)) refl
 
-inside : (places : Places) (number : ℕ) → range_start places number + range_len places ≤ MAX_NAMESPACE
+inside : (places : Places) (number : ℕ) → selected_start places number + range_len places ≤ MAX_NAMESPACE
 inside Anywhere number = omega arith
 inside Aligned number = omega arith
 inside Ascending number = omega arith

@@ -3,7 +3,7 @@ use Rattle.std.proofs.Common.{◌≡◌, ◌==◌, ℕ, suc, ◌+◌, Bool, true
 use Rattle.std.specs.List.{common_prefix_len}
 use Rattle.std.proofs.lemmas.Bool.Decides.{nat_tests}
 use Rattle.std.proofs.lemmas.List.{length-map}
-use Rattle.parts_bench.specs.Parts.{left_by}
+use Rattle.parts_bench.specs.Parts.{marks_left}
 use Rattle.parts_bench.specs.declared.workload.Builtin.{Builtin}
 use Rattle.parts_bench.specs.declared.workload.Builtin.TheVariants.{Count, Sum, Compare, Classes}
 
@@ -15,7 +15,7 @@ all_same (x ∷ bytes) = by_test (x == x) (grind (arith, nat_tests)) (all_same b
     by_test true h rest = omega (arith, rest)
     by_test false h rest = cc
 
-pub length-left_by : (program : Builtin) (bytes marks : List ℕ) → length marks ≡ length bytes → length (left_by program bytes marks) ≡ length bytes
+pub length-left_by : (program : Builtin) (bytes marks : List ℕ) → length marks ≡ length bytes → length (marks_left program bytes marks) ≡ length bytes
 length-left_by Count bytes marks e = e
 length-left_by Sum bytes marks e = e
 length-left_by Compare bytes marks e = e

@@ -7,8 +7,8 @@ use Rattle.parts_bench.specs.declared.workload.Workload.{Workload}
 use Rattle.parts_bench.specs.declared.workload.Workload.TheVariants.{Pieces, AskOne, AskSixteen, ChangeOne, ChangeSixteen, Exchange, Kernel, Plain}
 
 -- the workload that a word names, where it names one
-abbrev pub named_by : List ℕ → Option Workload
-named_by word =
+abbrev pub parts_workload_named : List ℕ → Option Workload
+parts_workload_named word =
     if bytes_eq word (codes "pieces") then Some Pieces
     else if bytes_eq word (codes "ask-one") then Some AskOne
     else if bytes_eq word (codes "ask-sixteen") then Some AskSixteen

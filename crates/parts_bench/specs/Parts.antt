@@ -35,9 +35,9 @@ claims_of reads writes zero = []
 claims_of reads writes (suc n) = claims_of reads writes n ++ record { key = n; footprint = footprint_at (64 * n) reads writes } ∷ []
 
 -- so many commands, each of which writes so many ranges between those that claims write
-abbrev pub asked_of : ℕ → ℕ → List Footprint
-asked_of writes zero = []
-asked_of writes (suc n) = asked_of writes n ++ footprint_at (64 * n + 32) 0 writes ∷ []
+abbrev pub footprints_between : ℕ → ℕ → List Footprint
+footprints_between writes zero = []
+footprints_between writes (suc n) = footprints_between writes n ++ footprint_at (64 * n + 32) 0 writes ∷ []
 
 -- how many commands may begin beside claims: they meet none of them
 abbrev pub free_among : List Claim → List Footprint → ℕ
@@ -45,7 +45,7 @@ free_among claims asked = count_by (λ (footprint : Footprint). not (list_any (�
 
 -- how many of so many commands that write so many ranges may begin beside as many claims of 16 ranges
 unfoldable pub free_in : ℕ → ℕ → ℕ
-free_in count writes = free_among (claims_of 0 16 count) (asked_of writes count)
+free_in count writes = free_among (claims_of 0 16 count) (footprints_between writes count)
 
 -- how many bytes a range has that is taken out
 abbrev pub range_len : Places → ℕ
@@ -55,35 +55,35 @@ range_len Ascending = 1024
 range_len Lone = 1
 
 -- where the range starts that a number selects
-abbrev pub range_start : Places → ℕ → ℕ
-range_start Anywhere number = number % (MAX_NAMESPACE - 4095)
-range_start Aligned number = number % (MAX_NAMESPACE / 4096) * 4096
-range_start Ascending number = number % (MAX_NAMESPACE / 1024) * 1024
-range_start Lone number = number % MAX_NAMESPACE
+abbrev pub selected_start : Places → ℕ → ℕ
+selected_start Anywhere number = number % (MAX_NAMESPACE - 4095)
+selected_start Aligned number = number % (MAX_NAMESPACE / 4096) * 4096
+selected_start Ascending number = number % (MAX_NAMESPACE / 1024) * 1024
+selected_start Lone number = number % MAX_NAMESPACE
 
 -- the range that a number selects
 abbrev pub range_of : Places → ℕ → Region
-range_of places number = record { space = Mem 1; start = range_start places number; len = range_len places }
+range_of places number = record { space = Mem 1; start = selected_start places number; len = range_len places }
 
 -- so many bytes of memory namespace 1 are at home
 abbrev pub AreHome : Homes → ℕ → Type 0
 AreHome homes size = (offset : ℕ) → offset < size → IsSome (known_at homes (Mem 1) offset)
 
 -- what a program of the device gives on bytes, which a comparison compares with the same bytes
-abbrev pub value_of : Builtin → List ℕ → ℕ
-value_of Count bytes = count_by (λ byte. byte == 1) bytes
-value_of Sum bytes = sum bytes
-value_of Compare bytes = common_prefix_len (λ x y. x == y) bytes bytes
-value_of Classes bytes = sum (marks_of 1 2 bytes)
+abbrev pub value_given : Builtin → List ℕ → ℕ
+value_given Count bytes = count_by (λ byte. byte == 1) bytes
+value_given Sum bytes = sum bytes
+value_given Compare bytes = common_prefix_len (λ x y. x == y) bytes bytes
+value_given Classes bytes = sum (marks_of 1 2 bytes)
 
 -- the marks that it leaves
-abbrev pub left_by : Builtin → List ℕ → List ℕ → List ℕ
-left_by Count bytes marks = marks
-left_by Sum bytes marks = marks
-left_by Compare bytes marks = marks
-left_by Classes bytes marks = marks_of 1 2 bytes
+abbrev pub marks_left : Builtin → List ℕ → List ℕ → List ℕ
+marks_left Count bytes marks = marks
+marks_left Sum bytes marks = marks
+marks_left Compare bytes marks = marks
+marks_left Classes bytes marks = marks_of 1 2 bytes
 
 -- a program of the device gives a value on bytes, and leaves the marks of a class
-pub record Gives (program : Builtin) (bytes : List ℕ) (value : ℕ) (old new : List ℕ) : Type 0 where
-  pub given : value ≡ value_of program bytes
-  pub marks : new ≡ left_by program bytes old
+pub record GivesOn (program : Builtin) (bytes : List ℕ) (value : ℕ) (old new : List ℕ) : Type 0 where
+  pub given : value ≡ value_given program bytes
+  pub marks : new ≡ marks_left program bytes old

@@ -2,7 +2,7 @@
 ghost use Rattle.std.specs.Prelude.{◌≡◌, ◌≤◌, ◌==◌, length, count_by, sum, IfSome};
 ghost use Rattle.std.specs.List.{common_prefix_len};
 ghost use Rattle.device_model.specs.Builtin.{marks_of};
-ghost use Rattle.parts_bench.specs.Parts.{Gives};
+ghost use Rattle.parts_bench.specs.Parts.{GivesOn};
 
 use crate::workload::Builtin;
 use builtin_programs::{count_byte, first_difference, mark_class, sum_bytes};
@@ -14,7 +14,7 @@ fn by_kernel(program: Builtin, bytes: &[u8], same: &[u8], marks: &mut [u8]) -> u
     requires short { length bytes.now ≤ MAX_NAMESPACE }
     requires same { same.now ≡ bytes.now }
     requires marks { length marks.old ≡ length bytes.now }
-    ensures { Gives program bytes.now result marks.old marks.new }
+    ensures { GivesOn program bytes.now result marks.old marks.new }
 {
     match program {
         Builtin::Count => count_byte(bytes, 1),
@@ -29,7 +29,7 @@ fn plainly(program: Builtin, bytes: &[u8], same: &[u8], marks: &mut [u8]) -> u64
     requires short { length bytes.now ≤ MAX_NAMESPACE }
     requires same { same.now ≡ bytes.now }
     requires marks { length marks.old ≡ length bytes.now }
-    ensures { Gives program bytes.now result marks.old marks.new }
+    ensures { GivesOn program bytes.now result marks.old marks.new }
 {
     match program {
         Builtin::Count => counted(bytes, 1),
@@ -91,7 +91,7 @@ fn once(program: Builtin, plain: bool, bytes: &[u8], same: &[u8], marks: &mut [u
     requires short { length bytes.now ≤ MAX_NAMESPACE }
     requires same { same.now ≡ bytes.now }
     requires marks { length marks.old ≡ length bytes.now }
-    ensures { Gives program bytes.now result marks.old marks.new }
+    ensures { GivesOn program bytes.now result marks.old marks.new }
 {
     if plain {
         plainly(program, bytes, same, marks)

@@ -2,8 +2,8 @@
 ghost use Rattle.std.specs.Prelude.{◌≡◌, ◌-◌, ◌*◌, ◌<◌, ◌≤◌, ◌^◌, false, length, IfSome};
 ghost use Rattle.cp_base.specs.Runs.{runs_of};
 ghost use Rattle.range_claims.specs.Kept.{is_kept};
-ghost use Rattle.range_claims.specs.Steps.{ranges_of};
-ghost use Rattle.parts_bench.specs.Parts.{asked_of, claims_of, footprint_at, free_among, free_in, strided};
+ghost use Rattle.range_claims.specs.Steps.{ranges_touched};
+ghost use Rattle.parts_bench.specs.Parts.{claims_of, footprint_at, footprints_between, free_among, free_in, strided};
 
 use cp_base::{ByteRange, Footprint, MAX_RUNS, SpaceId, Spans};
 use range_claims::Claims;
@@ -69,7 +69,7 @@ fn kept(alloc: Global, count: u32, reads: u64, writes: u64) -> Option<Claims>
 fn asked(alloc: Global, count: u32, writes: u64) -> Option<Vec<Footprint>>
     requires count { count ≤ MOST }
     requires writes { writes ≤ MAX_RUNS }
-    ensures asked { IfSome result (λ asked. asked.items ≡ asked_of writes count) }
+    ensures asked { IfSome result (λ asked. asked.items ≡ footprints_between writes count) }
     ensures few { IfSome result (λ asked. length asked.items ≤ MOST) }
 {
     let mut asked = Vec::new(alloc);
@@ -126,7 +126,7 @@ fn change_all(claims: &mut Claims, last: Footprint, rounds: u32) -> u64
     requires room { length claims.old.kept < claims.old.most }
     requires new_key { is_kept claims.old.kept MOST ≡ false }
     ensures claims { claims.new ≡ claims.old }
-    ensures ranges { result ≡ rounds * ranges_of last }
+    ensures ranges { result ≡ rounds * ranges_touched last }
 {
     let mut footprint = last;
     let mut ranges = 0;
@@ -143,7 +143,7 @@ fn change_all(claims: &mut Claims, last: Footprint, rounds: u32) -> u64
 pub fn change(alloc: Global, reads: u64, writes: u64, rounds: u32) -> Option<u64>
     requires reads { reads ≤ MAX_RUNS }
     requires writes { writes ≤ MAX_RUNS }
-    ensures { IfSome result (λ ranges. ranges ≡ rounds * ranges_of (footprint_at (NEXT * (MOST - 1)) reads writes)) }
+    ensures { IfSome result (λ ranges. ranges ≡ rounds * ranges_touched (footprint_at (NEXT * (MOST - 1)) reads writes)) }
 {
     let mut claims = kept(alloc, MOST - 1, reads, writes)?;
     let last = footprint(alloc, NEXT * u64::from(MOST - 1), reads, writes)?;

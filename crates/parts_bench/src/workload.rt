@@ -1,6 +1,6 @@
 //! The workloads.
 ghost use Rattle.std.specs.Prelude.{◌≡◌};
-ghost use Rattle.parts_bench.specs.Names.{named_by};
+ghost use Rattle.parts_bench.specs.Names.{parts_workload_named};
 
 /// What is done in each round.
 #[derive(Clone, Copy, Debug, PartialEq, Eq)]
@@ -52,7 +52,7 @@ pub enum Builtin {
 impl Workload {
     /// The workload of this name. `None` where it is the name of none.
     pub fn named(word: &str) -> Option<Workload>
-        ensures { result ≡ named_by word.now }
+        ensures { result ≡ parts_workload_named word.now }
     {
         if word == "pieces" {
             Some(Workload::Pieces)

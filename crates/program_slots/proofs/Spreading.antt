@@ -12,14 +12,14 @@ use Rattle.std.proofs.lemmas.List.Folds.{list_all-append}
 use Rattle.std.proofs.lemmas.List.{append-nil, append_assoc, drop-append-le, drop-replicate, length-append, length-map, length-replicate, map-append, take-append-le, take-replicate}
 use Rattle.cp_base.specs.Buffer.{Buffer}
 use Rattle.cp_base.specs.Pieces.{patched, piece}
-use Rattle.program_slots.specs.Spread.{AreDisjoint, joined_bytes, loaded_in, spread}
+use Rattle.program_slots.specs.Spread.{AreSpread, joined_bytes, loaded_in, spread}
 use Rattle.program_slots.proofs.Parts.{any_behind, any_known, any_missing, patched_behind, same_less}
 
 -- the bytes that are there
 abbrev known : List ℕ → List (Option ℕ)
 known bytes = map (λ byte. Some byte) bytes
 
-pub length-spread : (from size : ℕ) (es : List (ℕ × Buffer)) → AreDisjoint from size es → from + length (spread from size es) ≡ size
+pub length-spread : (from size : ℕ) (es : List (ℕ × Buffer)) → AreSpread from size es → from + length (spread from size es) ≡ size
 length-spread from size [] d = rw length-replicate (omega arith)
 length-spread from size (e ∷ es) d =
     let more = length-spread (e.0 + length e.1.items) size es d.2 in
@@ -33,7 +33,7 @@ abbrev pub covered : ℕ → ℕ → List (ℕ × Buffer) → Bool
 covered at end es = list_any (hits at end) es
 
 -- whether a byte is there in a part is whether a piece lies there
-pub any_covered : (from size at end : ℕ) (es : List (ℕ × Buffer)) → AreDisjoint from size es → at < end
+pub any_covered : (from size at end : ℕ) (es : List (ℕ × Buffer)) → AreSpread from size es → at < end
     → list_any (λ (byte : Option ℕ). is_some byte) (take (end - max at from) (drop (at - from) (spread from size es))) ≡ covered at end es
 any_covered from size at end [] d h = any_missing (at - from) (end - max at from) (size - from)
 any_covered from size at end (e ∷ es) d h =
@@ -73,7 +73,7 @@ last_end_kept : (yes : Bool) (d from size : ℕ) (e : ℕ × Buffer) (kept : Lis
 last_end_kept true d from size e kept h taken left = taken
 last_end_kept false d from size e kept h taken left = left
 
-pub last_end_fits : (p : ℕ × Buffer → Bool) (d from size : ℕ) (es : List (ℕ × Buffer)) → AreDisjoint from size es → d ≤ from → last_end d (filter p es) ≤ size
+pub last_end_fits : (p : ℕ × Buffer → Bool) (d from size : ℕ) (es : List (ℕ × Buffer)) → AreSpread from size es → d ≤ from → last_end d (filter p es) ≤ size
 last_end_fits p d from size [] apart h = omega (arith, apart)
 last_end_fits p d from size (e ∷ es) apart h =
     last_end_kept (p e) d from size e (filter p es) h (last_end_fits p (e.0 + length e.1.items) (e.0 + length e.1.items) size es apart.2 (omega arith))
@@ -100,7 +100,7 @@ unmixed true c y = refl
 unmixed false c y = refl
 
 -- the last piece that begins below the end of a part tells whether one lies in it
-pub covered_last : (d from size at end : ℕ) (es : List (ℕ × Buffer)) → AreDisjoint from size es → d ≤ from
+pub covered_last : (d from size at end : ℕ) (es : List (ℕ × Buffer)) → AreSpread from size es → d ≤ from
     → (covered at end es || ltb at d) ≡ ltb at (last_end d (filter (λ (e : ℕ × Buffer). ltb e.0 end) es))
 covered_last d from size at end [] apart h = refl
 covered_last d from size at end (e ∷ es) apart h =
@@ -121,7 +121,7 @@ or_nothing true y e = refl
 or_nothing false y e = e
 
 -- the same of the part of a program's bytes
-pub part_covered : (size at n : ℕ) (es : List (ℕ × Buffer)) → AreDisjoint 0 size es → 0 < n
+pub part_covered : (size at n : ℕ) (es : List (ℕ × Buffer)) → AreSpread 0 size es → 0 < n
     → list_any (λ (byte : Option ℕ). is_some byte) (piece (spread 0 size es) at n) ≡ covered at (at + n) es
 part_covered size at n es apart some =
     let all = any_covered 0 size at (at + n) es apart (omega arith) in
@@ -130,7 +130,7 @@ part_covered size at n es apart some =
     ap (λ (k : ℕ). list_any (λ (byte : Option ℕ). is_some byte) (take k (drop at (spread 0 size es)))) (sym m)
     ∙ ap (λ (k : ℕ). list_any (λ (byte : Option ℕ). is_some byte) (take (at + n - max at 0) (drop k (spread 0 size es)))) (sym i) ∙ all
 
-pub part_by_last : (size at n : ℕ) (es : List (ℕ × Buffer)) → AreDisjoint 0 size es → 0 < n
+pub part_by_last : (size at n : ℕ) (es : List (ℕ × Buffer)) → AreSpread 0 size es → 0 < n
     → ltb at (last_end 0 (filter (λ (e : ℕ × Buffer). ltb e.0 (at + n)) es)) ≡ list_any (λ (byte : Option ℕ). is_some byte) (piece (spread 0 size es) at n)
 part_by_last size at n es apart some =
     sym (covered_last 0 0 size at (at + n) es apart (omega arith))
@@ -151,20 +151,20 @@ put_before at bytes e es h = rw (lt-ltb at e.0 h) refl
 put_behind : (at : ℕ) (bytes : Buffer) (e : ℕ × Buffer) (es : List (ℕ × Buffer)) → e.0 < at → insert_entry nat_cmp (e ∷ es) at bytes ≡ e ∷ insert_entry nat_cmp es at bytes
 put_behind at bytes e es h = rw (le-ltb at e.0 (omega arith), ne_eqb at e.0 (λ same. omega arith)) refl
 
-pub disjoint_inserted : (from size at : ℕ) (bytes : Buffer) (es : List (ℕ × Buffer)) → AreDisjoint from size es → from ≤ at → at + length bytes.items ≤ size
-    → 0 < length bytes.items → covered at (at + length bytes.items) es ≡ false → AreDisjoint from size (insert_entry nat_cmp es at bytes)
+pub disjoint_inserted : (from size at : ℕ) (bytes : Buffer) (es : List (ℕ × Buffer)) → AreSpread from size es → from ≤ at → at + length bytes.items ≤ size
+    → 0 < length bytes.items → covered at (at + length bytes.items) es ≡ false → AreSpread from size (insert_entry nat_cmp es at bytes)
 disjoint_inserted from size at bytes [] apart low high some free = (low, some, high)
 disjoint_inserted from size at bytes (e ∷ es) apart low high some free =
     let parts = or_parts (hits at (at + length bytes.items) e) (covered at (at + length bytes.items) es) free in
     ⊎_elim
     (λ (before : e.0 + length e.1.items ≤ at).
-    subst (AreDisjoint from size) (sym (put_behind at bytes e es (omega (arith, apart.1))))
+    subst (AreSpread from size) (sym (put_behind at bytes e es (omega (arith, apart.1))))
     (apart.0, apart.1, disjoint_inserted (e.0 + length e.1.items) size at bytes es apart.2 before high some parts.1))
     (λ (behind : at + length bytes.items ≤ e.0).
-    subst (AreDisjoint from size) (sym (put_before at bytes e es (omega arith))) (low, some, (behind, apart.1, apart.2)))
+    subst (AreSpread from size) (sym (put_before at bytes e es (omega arith))) (low, some, (behind, apart.1, apart.2)))
     (apart_from at (at + length bytes.items) e parts.0)
 
-pub loaded_inserted : (from size at : ℕ) (bytes : Buffer) (es : List (ℕ × Buffer)) → AreDisjoint from size es
+pub loaded_inserted : (from size at : ℕ) (bytes : Buffer) (es : List (ℕ × Buffer)) → AreSpread from size es
     → 0 < length bytes.items → covered at (at + length bytes.items) es ≡ false → loaded_in (insert_entry nat_cmp es at bytes) ≡ length bytes.items + loaded_in es
 loaded_inserted from size at bytes [] apart some free = refl
 loaded_inserted from size at bytes (e ∷ es) apart some free =
@@ -192,7 +192,7 @@ put_early from k at bytes rest low high =
     ∙ ap (λ (zs : List (Option ℕ)). replicate (at - from) None ++ known bytes ++ zs) back
     ∙ append_assoc (replicate (at - from) None) (known bytes) (replicate (k - (at + length bytes)) None ++ rest))
 
-pub spread_inserted : (from size at : ℕ) (bytes : Buffer) (es : List (ℕ × Buffer)) → AreDisjoint from size es → from ≤ at → at + length bytes.items ≤ size
+pub spread_inserted : (from size at : ℕ) (bytes : Buffer) (es : List (ℕ × Buffer)) → AreSpread from size es → from ≤ at → at + length bytes.items ≤ size
     → 0 < length bytes.items → covered at (at + length bytes.items) es ≡ false
     → spread from size (insert_entry nat_cmp es at bytes) ≡ patched (spread from size es) (at - from) (map (λ byte. Some byte) bytes.items)
 spread_inserted from size at bytes [] apart low high some free =
@@ -219,7 +219,7 @@ spread_inserted from size at bytes (e ∷ es) apart low high some free =
 
 -- ---- complete programs
 
-pub few_loaded : (from size : ℕ) (es : List (ℕ × Buffer)) → AreDisjoint from size es → from + loaded_in es ≤ size
+pub few_loaded : (from size : ℕ) (es : List (ℕ × Buffer)) → AreSpread from size es → from + loaded_in es ≤ size
 few_loaded from size [] apart = omega arith
 few_loaded from size (e ∷ es) apart = let more = few_loaded (e.0 + length e.1.items) size es apart.2 in omega (arith, apart.0)
 
@@ -232,7 +232,7 @@ all_known [] = refl
 all_known (byte ∷ bytes) = all_known bytes
 
 -- no byte is missing where as many are loaded as there are
-pub complete_spread : (from size : ℕ) (es : List (ℕ × Buffer)) → AreDisjoint from size es
+pub complete_spread : (from size : ℕ) (es : List (ℕ × Buffer)) → AreSpread from size es
     → list_all (λ (byte : Option ℕ). is_some byte) (spread from size es) ≡ eqb (from + loaded_in es) size
 complete_spread from size [] apart =
     all_missing (size - from)
@@ -260,7 +260,7 @@ bytes_known : (bytes : List ℕ) → map (λ (byte : Option ℕ). unwrap_or byte
 bytes_known [] = refl
 bytes_known (byte ∷ bytes) = ap (λ (rest : List ℕ). byte ∷ rest) (bytes_known bytes)
 
-pub code_joined : (from size : ℕ) (es : List (ℕ × Buffer)) → AreDisjoint from size es → from + loaded_in es ≡ size
+pub code_joined : (from size : ℕ) (es : List (ℕ × Buffer)) → AreSpread from size es → from + loaded_in es ≡ size
     → map (λ (byte : Option ℕ). unwrap_or byte 0) (spread from size es) ≡ joined_bytes es
 code_joined from size [] apart all = let none : size - from ≡ 0 = omega arith in ap (λ (n : ℕ). map (λ (byte : Option ℕ). unwrap_or byte 0) (replicate n None)) none
 code_joined from size (e ∷ es) apart all =

@@ -20,14 +20,14 @@ pub record IsDecodedFrom (decoded : List (Option Insn)) (code : List ℕ) : Type
   pub well_formed : IsWellFormed code
 
 -- the code of a program's bytes; a byte that is missing counts as 0
-abbrev pub code_in : List (Option ℕ) → List ℕ
-code_in bytes = map (λ byte. unwrap_or byte 0) bytes
+abbrev pub code_of_bytes : List (Option ℕ) → List ℕ
+code_of_bytes bytes = map (λ byte. unwrap_or byte 0) bytes
 
 -- an active program is complete, and what it was decoded to is its code's
 abbrev pub IsHeldSoundly : Option (List (Option Insn)) → List (Option ℕ) → Type 0
 IsHeldSoundly None bytes = Unit {0}
 IsHeldSoundly (Some decoded) bytes =
-    IsTrue (list_all (λ byte. is_some byte) bytes) × IsDecodedFrom decoded (code_in bytes)
+    IsTrue (list_all (λ byte. is_some byte) bytes) × IsDecodedFrom decoded (code_of_bytes bytes)
 
 -- the slot that holds a program, or none
 abbrev pub slot_of : Option HeldProgram → Slot

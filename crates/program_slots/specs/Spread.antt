@@ -10,10 +10,10 @@ spread from size (piece ∷ pieces) =
     ++ (map (λ byte. Some byte) piece.1.items ++ spread (piece.0 + length piece.1.items) size pieces)
 
 -- each piece has a byte and lies behind the one before it, and all lie between a place and the end
-abbrev pub AreDisjoint : ℕ → ℕ → List (ℕ × Buffer) → Type 0
-AreDisjoint from size [] = from ≤ size
-AreDisjoint from size (piece ∷ pieces) =
-    (from ≤ piece.0) × (0 < length piece.1.items) × AreDisjoint (piece.0 + length piece.1.items) size pieces
+abbrev pub AreSpread : ℕ → ℕ → List (ℕ × Buffer) → Type 0
+AreSpread from size [] = from ≤ size
+AreSpread from size (piece ∷ pieces) =
+    (from ≤ piece.0) × (0 < length piece.1.items) × AreSpread (piece.0 + length piece.1.items) size pieces
 
 -- how many bytes the pieces have
 abbrev pub loaded_in : List (ℕ × Buffer) → ℕ

@@ -21,13 +21,13 @@ pub(crate) struct Pieces {
 impl Model for Pieces {
     ghost use Rattle.std.specs.Prelude.{◌≡◌, ◌≤◌, ℕ, List, Option};
     ghost use Rattle.cp_base.specs.declared.limits.TheConstants.{MAX_PROGRAM};
-    ghost use Rattle.program_slots.specs.Spread.{AreDisjoint, loaded_in, spread};
+    ghost use Rattle.program_slots.specs.Spread.{AreSpread, loaded_in, spread};
 
     ghost Value = { List (Option ℕ) };
 
     ghost view = { λ p. spread 0 p.size p.pieces.entries };
 
-    ghost invariant = { λ p. (p.size ≤ MAX_PROGRAM) × AreDisjoint 0 p.size p.pieces.entries
+    ghost invariant = { λ p. (p.size ≤ MAX_PROGRAM) × AreSpread 0 p.size p.pieces.entries
         × (p.loaded ≡ loaded_in p.pieces.entries) };
 }
 

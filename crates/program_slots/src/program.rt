@@ -4,7 +4,7 @@ ghost use Rattle.std.specs.Arc.{arc_value};
 ghost use Rattle.std.specs.List.{list_all, list_any};
 ghost use Rattle.cp_base.specs.Pieces.{patched, piece};
 ghost use Rattle.bpf_model.specs.Walk.{bad_place, is_well_formed};
-ghost use Rattle.program_slots.specs.Program.{IsDecodedFrom, IsHeldSoundly, code_in};
+ghost use Rattle.program_slots.specs.Program.{IsDecodedFrom, IsHeldSoundly, code_of_bytes};
 
 use crate::pieces::Pieces;
 use bpf_decode::{DecodeEnd, Decoded, decode};
@@ -78,7 +78,7 @@ impl Program {
     /// What an active program was decoded to.
     pub(crate) fn code(&self) -> Option<&Arc<Decoded>>
         ensures active { is_some result ≡ is_some self.now.decoded }
-        ensures decoded { IfSome result (λ code. IsDecodedFrom (arc_value code.now) (code_in self.now.bytes)) }
+        ensures decoded { IfSome result (λ code. IsDecodedFrom (arc_value code.now) (code_of_bytes self.now.bytes)) }
     {
         self.code.as_ref()
     }
@@ -101,10 +101,10 @@ impl Program {
         requires { list_all (λ byte. is_some byte) self.old.bytes ≡ true }
         ensures bytes { self.new.bytes ≡ self.old.bytes }
         ensures active { OnOk result (is_some self.new.decoded ≡ true) }
-        ensures well_formed { OnOk result (is_well_formed (code_in self.old.bytes) ≡ true) }
+        ensures well_formed { OnOk result (is_well_formed (code_of_bytes self.old.bytes) ≡ true) }
         ensures unchanged { OnErr result (self.new ≡ self.old) }
         ensures bad { (place : ℕ) → result ≡ Err (DecodeEnd.BadInsn place) →
-            (is_well_formed (code_in self.old.bytes) ≡ false) × (place ≡ bad_place (code_in self.old.bytes)) }
+            (is_well_formed (code_of_bytes self.old.bytes) ≡ false) × (place ≡ bad_place (code_of_bytes self.old.bytes)) }
     {
         let code = match self.pieces.joined() {
             Ok(code) => code,

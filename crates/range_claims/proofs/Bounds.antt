@@ -5,7 +5,7 @@ use Rattle.std.proofs.lemmas.Bool.Decides.{nat_tests}
 use Rattle.cp_base.specs.declared.region.SpaceId.{SpaceId}
 use Rattle.cp_base.specs.declared.region.SpaceId.TheVariants.{Nvm}
 use Rattle.range_claims.specs.Counts.{count_at, held_at}
-use Rattle.range_claims.specs.Segments.{AreMaximal, Ascend, Differ, Follows, IsFrom, Nowhere}
+use Rattle.range_claims.specs.Segments.{AreMaximal, Ascend, Differ, IsFrom, MeetsNextAt, Nowhere}
 use Rattle.range_claims.specs.declared.segments.Segment.{Segment}
 use Rattle.range_claims.proofs.Basics.{chosen, count_before, held_before, held_behind, held_inside}
 
@@ -57,7 +57,7 @@ by_test : (b : Bool) → (b ≡ false → ⊥) → b ≡ true
 by_test true h = refl
 by_test false h = absurd (h refl)
 
-begin_at_ends : (ys : List Segment) (low : ℕ) (before : Segment) (segments : List Segment) → before.to ≡ low → Ascend low segments → Differ Nowhere segments → Follows Nowhere before segments
+begin_at_ends : (ys : List Segment) (low : ℕ) (before : Segment) (segments : List Segment) → before.to ≡ low → Ascend low segments → Differ Nowhere segments → MeetsNextAt Nowhere before segments
     → ((x : ℕ) → low ≤ x → count_at segments x ≡ count_at ys x) → ((p : ℕ) → low ≡ p + 1 → count_at ys p ≡ before.count) → BeginAtEnds ys segments
 begin_at_ends ys low before [] e a d f same last = tt
 begin_at_ends ys low before (s ∷ segments) e (here, rest) (first, others) f same last = (
@@ -163,6 +163,6 @@ at_most_two segments ys m same =
     let ends = begin_at_ends ys 0 nothing segments refl m.ascend m.differ (first segments m.ascend) (λ x _. same x) (λ p e. absurd (omega arith)) in
     omega (arith, as_many_at_ends segments ys ends, few_at_ends 0 segments ys m.ascend)
   where
-    first : (some : List Segment) → Ascend 0 some → Follows Nowhere (record { space = Nvm 0; from = 0; to = 0; count = 0 }) some
+    first : (some : List Segment) → Ascend 0 some → MeetsNextAt Nowhere (record { space = Nvm 0; from = 0; to = 0; count = 0 }) some
     first [] a = tt
     first (s ∷ some) (here, rest) = λ touch none. absurd (omega (arith, here.counted))

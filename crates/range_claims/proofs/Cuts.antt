@@ -2,7 +2,7 @@
 use Rattle.std.proofs.Common.{◌≡◌, ℕ, ◌+◌, ◌*◌, ◌<◌, ◌≤◌, nat_le, nat_lt, true, false, List, [], ◌∷◌, length, arith, refl, sym, ◌∙◌, inl, inr, ◌⊎◌, ⊎_elim}
 use Rattle.range_claims.specs.Changes.{cut_at}
 use Rattle.range_claims.specs.Counts.{count_at, held_at}
-use Rattle.range_claims.specs.Segments.{Ascend, Differ, Follows, IsCut, IsFrom}
+use Rattle.range_claims.specs.Segments.{Ascend, Differ, IsCut, IsFrom, MeetsNextAt}
 use Rattle.range_claims.specs.declared.segments.Segment.{Segment}
 use Rattle.range_claims.proofs.Basics.{chosen, held_since, le_false, le_true, lt_false, lt_true}
 
@@ -73,16 +73,16 @@ cut_length place (s ∷ segments) =
 
 -- what follows a segment still does where the first of those behind it begins and counts as before
 pub follows_same : (P : ℕ → Type 0) (s t u : Segment) (some others : List Segment) → u.from ≡ t.from → u.count ≡ t.count
-    → Follows P s (t ∷ some) → Follows P s (u ∷ others)
+    → MeetsNextAt P s (t ∷ some) → MeetsNextAt P s (u ∷ others)
 follows_same P s t u some others e f h = λ touch same. h (sym e ∙ touch) (sym f ∙ same)
 
 -- a segment that ends before the first of those behind it does not touch it
-pub follows_gap : (P : ℕ → Type 0) (s : Segment) (low : ℕ) (segments : List Segment) → s.to < low → Ascend low segments → Follows P s segments
+pub follows_gap : (P : ℕ → Type 0) (s : Segment) (low : ℕ) (segments : List Segment) → s.to < low → Ascend low segments → MeetsNextAt P s segments
 follows_gap P s low [] h a = tt
 follows_gap P s low (t ∷ segments) h (here, rest) = λ touch same. absurd (omega (arith, here.low, touch))
 
 -- neighbours may touch at more places
-pub Follows_more : (P Q : ℕ → Type 0) (s : Segment) (segments : List Segment) → ((place : ℕ) → P place → Q place) → Follows P s segments → Follows Q s segments
+pub Follows_more : (P Q : ℕ → Type 0) (s : Segment) (segments : List Segment) → ((place : ℕ) → P place → Q place) → MeetsNextAt P s segments → MeetsNextAt Q s segments
 Follows_more P Q s [] f h = tt
 Follows_more P Q s (t ∷ segments) f h = λ touch same. f s.to (h touch same)
 
@@ -91,12 +91,12 @@ Differ_more P Q [] f h = tt
 Differ_more P Q (s ∷ segments) f (first, others) = (Follows_more P Q s segments f first, Differ_more P Q segments f others)
 
 -- the first of the segments after a cut begins and counts as before
-follows_cut : (P : ℕ → Type 0) (place : ℕ) (s : Segment) (segments : List Segment) → Follows P s segments → Follows P s (cut_at place segments)
+follows_cut : (P : ℕ → Type 0) (place : ℕ) (s : Segment) (segments : List Segment) → MeetsNextAt P s segments → MeetsNextAt P s (cut_at place segments)
 follows_cut P place s [] h = tt
 follows_cut P place s (t ∷ segments) h =
     let Cut : List Segment = record t { to = place } ∷ record t { from = place } ∷ segments in
-    chosen (Follows P s) (nat_le t.to place) (t ∷ cut_at place segments) _ (λ _. h)
-    (λ n. chosen (Follows P s) (nat_lt t.from place) Cut (t ∷ segments) (λ _. h) (λ _. h))
+    chosen (MeetsNextAt P s) (nat_le t.to place) (t ∷ cut_at place segments) _ (λ _. h)
+    (λ n. chosen (MeetsNextAt P s) (nat_lt t.from place) Cut (t ∷ segments) (λ _. h) (λ _. h))
 
 pub cut_differ : (P : ℕ → Type 0) (place : ℕ) (segments : List Segment) → P place → Differ P segments → Differ P (cut_at place segments)
 cut_differ P place [] there h = tt
@@ -105,6 +105,6 @@ cut_differ P place (s ∷ segments) there (first, others) =
     chosen (Differ P) (nat_le s.to place) (s ∷ cut_at place segments) _ (λ _. (follows_cut P place s segments first, cut_differ P place segments there others))
     (λ n. chosen (Differ P) (nat_lt s.from place) Cut (s ∷ segments) (λ _. ((λ touch same. there), (last s segments first, others))) (λ _. (first, others)))
   where
-    last : (s : Segment) (segments : List Segment) → Follows P s segments → Follows P (record s { from = place }) segments
+    last : (s : Segment) (segments : List Segment) → MeetsNextAt P s segments → MeetsNextAt P (record s { from = place }) segments
     last s [] h = tt
     last s (t ∷ segments) h = h

@@ -8,7 +8,7 @@ use Rattle.cp_base.specs.declared.region.SpaceId.{SpaceId}
 use Rattle.cp_base.specs.declared.region.SpaceId.TheVariants.{Nvm, Mem}
 use Rattle.range_claims.specs.Places.{base_of}
 use Rattle.range_claims.specs.declared.places.TheConstants.{STRIDE}
-use Rattle.range_claims.specs.Segments.{Ascend, Differ, Follows, IsFrom}
+use Rattle.range_claims.specs.Segments.{Ascend, Differ, IsFrom, MeetsNextAt}
 use Rattle.range_claims.specs.declared.segments.Segment.{Segment}
 use Rattle.range_claims.proofs.Basics.{chosen, held_since, since}
 use Rattle.range_claims.proofs.Cuts.{follows_same}
@@ -103,17 +103,17 @@ differ_later P place low [] h a d = tt
 differ_later P place low (s ∷ segments) h (here, rest) (first, others) =
     (follows segments first, differ_later P place s.to segments (omega (arith, here.low, here.some)) rest others)
   where
-    follows : (some : List Segment) → Follows P s some → Follows (But place P) s some
+    follows : (some : List Segment) → MeetsNextAt P s some → MeetsNextAt (But place P) s some
     follows [] f = tt
     follows (t ∷ some) f = λ touch same. (f touch same, λ e. absurd (omega (arith, here.low, here.some)))
 
 -- what is joined begins and counts as its first segment
-follows_joined : (R : ℕ → Type 0) (place : ℕ) (s t : Segment) (segments : List Segment) → (t.from ≡ s.to → t.count ≡ s.count → R s.to) → Follows R s (joined_after place t segments)
+follows_joined : (R : ℕ → Type 0) (place : ℕ) (s t : Segment) (segments : List Segment) → (t.from ≡ s.to → t.count ≡ s.count → R s.to) → MeetsNextAt R s (joined_after place t segments)
 follows_joined R place s t [] h = h
 follows_joined R place s t (u ∷ segments) h =
-    chosen (Follows R s) (joins place t u) (record t { to = u.to } ∷ segments) (t ∷ joined_after place u segments) (λ _. h) (λ _. h)
+    chosen (MeetsNextAt R s) (joins place t u) (record t { to = u.to } ∷ segments) (t ∷ joined_after place u segments) (λ _. h) (λ _. h)
 
-join_differ_behind : (P : ℕ → Type 0) (low place : ℕ) (s : Segment) (segments : List Segment) → IsFrom low s → Ascend s.to segments → Follows P s segments → Differ P segments
+join_differ_behind : (P : ℕ → Type 0) (low place : ℕ) (s : Segment) (segments : List Segment) → IsFrom low s → Ascend s.to segments → MeetsNextAt P s segments → Differ P segments
     → Differ (But place P) (joined_after place s segments)
 join_differ_behind P low place s [] here rest first others = (tt, tt)
 join_differ_behind P low place s (t ∷ segments) here (next, rest) first (second, others) =
@@ -126,7 +126,7 @@ join_differ_behind P low place s (t ∷ segments) here (next, rest) first (secon
       join_differ_behind P s.to place t segments next rest second others,
     ))
   where
-    follows : (some : List Segment) → t.count ≡ s.count → t.from ≡ place → Follows P t some → Follows (But place P) (record s { to = t.to }) some
+    follows : (some : List Segment) → t.count ≡ s.count → t.from ≡ place → MeetsNextAt P t some → MeetsNextAt (But place P) (record s { to = t.to }) some
     follows [] count from f = tt
     follows (u ∷ some) count from f = λ touch same. (f touch (same ∙ sym count), λ e. absurd (omega (arith, next.some)))
 

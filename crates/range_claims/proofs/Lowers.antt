@@ -6,7 +6,7 @@ use Rattle.cp_base.specs.declared.limits.TheConstants.{MAX_NAMESPACE}
 use Rattle.range_claims.specs.Changes.{joined_at, joined_after, lowered}
 use Rattle.range_claims.specs.Counts.{AreCounted, count_at, held_at}
 use Rattle.range_claims.specs.Places.{base_of}
-use Rattle.range_claims.specs.Segments.{Ascend, Differ, Follows, IsCut, IsFrom, Nowhere}
+use Rattle.range_claims.specs.Segments.{Ascend, Differ, IsCut, IsFrom, MeetsNextAt, Nowhere}
 use Rattle.range_claims.specs.declared.segments.Segment.{Segment}
 use Rattle.range_claims.proofs.Basics.{Ascend_lower, chosen, count_before, eq_true, held_before, held_behind, held_inside, held_since, le_false, le_true, lt_false, lt_true, since, since_one, since_zero}
 use Rattle.range_claims.proofs.Cuts.{Differ_more, Follows_more, cut_before, follows_gap, follows_same}
@@ -86,29 +86,29 @@ lower_ascend low from to (s ∷ segments) (here, rest) =
 
 -- a segment before the range, and what is behind it now
 follows_lowered : (P : ℕ → Type 0) (s : Segment) (from to : ℕ) (segments : List Segment) → P from → s.to ≤ from → IsCut from segments → Ascend s.to segments
-    → Follows P s segments → Follows P s (lowered from to segments)
+    → MeetsNextAt P s segments → MeetsNextAt P s (lowered from to segments)
 follows_lowered P s from to [] there h f a old = tt
 follows_lowered P s from to (t ∷ segments) there h (f, fs) (here, rest) old =
     let Fewer : List Segment = record t { count = t.count - 1 } ∷ lowered t.to to segments in
-    chosen (Follows P s) (nat_le t.to from) (t ∷ lowered from to segments) _ (λ _. old)
+    chosen (MeetsNextAt P s) (nat_le t.to from) (t ∷ lowered from to segments) _ (λ _. old)
     (λ n. let after = le_false t.to from n in
     let begins : from ≤ t.from = ⊎_elim (λ (p : t.to ≤ from). absurd (omega arith)) (λ (q : from ≤ t.from). q) f in
-    chosen (Follows P s) (nat_le to t.from) (t ∷ segments) _ (λ _. old)
-    (λ _. chosen (Follows P s) (t.count == 1) (lowered t.to to segments) Fewer
+    chosen (MeetsNextAt P s) (nat_le to t.from) (t ∷ segments) _ (λ _. old)
+    (λ _. chosen (MeetsNextAt P s) (t.count == 1) (lowered t.to to segments) Fewer
     (λ _. follows_gap P s t.to (lowered t.to to segments) (omega (arith, here.some)) (lower_ascend t.to t.to to segments rest))
     (λ _. λ touch same. let place : from ≡ s.to = omega arith in subst P place there)))
 
 -- a lowered segment, and what is behind it now
 follows_fewer : (P : ℕ → Type 0) (s : Segment) (to : ℕ) (segments : List Segment) → P to → s.to ≤ to → 1 < s.count → Ascend s.to segments
-    → Follows P s segments → Follows P (record s { count = s.count - 1 }) (lowered s.to to segments)
+    → MeetsNextAt P s segments → MeetsNextAt P (record s { count = s.count - 1 }) (lowered s.to to segments)
 follows_fewer P s to [] there h c a old = tt
 follows_fewer P s to (t ∷ segments) there h c (here, rest) old =
     let S : Segment = record s { count = s.count - 1 } in
     let Fewer : List Segment = record t { count = t.count - 1 } ∷ lowered t.to to segments in
-    chosen (Follows P S) (nat_le t.to s.to) (t ∷ lowered s.to to segments) _ (λ b. absurd (omega (arith, le_true t.to s.to b, here.low, here.some)))
-    (λ n. chosen (Follows P S) (nat_le to t.from) (t ∷ segments) _
+    chosen (MeetsNextAt P S) (nat_le t.to s.to) (t ∷ lowered s.to to segments) _ (λ b. absurd (omega (arith, le_true t.to s.to b, here.low, here.some)))
+    (λ n. chosen (MeetsNextAt P S) (nat_le to t.from) (t ∷ segments) _
     (λ e. λ touch same. let place : to ≡ s.to = omega (arith, le_true to t.from e, touch) in subst P place there)
-    (λ _. chosen (Follows P S) (t.count == 1) (lowered t.to to segments) Fewer
+    (λ _. chosen (MeetsNextAt P S) (t.count == 1) (lowered t.to to segments) Fewer
     (λ _. follows_gap P S t.to (lowered t.to to segments) (omega (arith, here.low, here.some)) (lower_ascend t.to t.to to segments rest))
     (λ k. λ touch same. old touch (omega (arith, same, here.counted)))))
 

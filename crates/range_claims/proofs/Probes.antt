@@ -10,7 +10,7 @@ use Rattle.cp_base.specs.declared.spans.Footprint.{Footprint}
 use Rattle.range_claims.specs.Kept.{all_reads, all_writes}
 use Rattle.range_claims.specs.Places.{end_of, start_of}
 use Rattle.range_claims.specs.Segments.{Ascend, IsFrom}
-use Rattle.range_claims.specs.Steps.{binary_digits, ranges_kept, ranges_of, region_of, steps_at_most}
+use Rattle.range_claims.specs.Steps.{binary_digits, ranges_kept, ranges_touched, segment_region, steps_at_most}
 use Rattle.range_claims.specs.declared.claims.Claim.{Claim}
 use Rattle.range_claims.specs.declared.segments.Segment.{Segment}
 use Rattle.range_claims.proofs.Totals.{append_length}
@@ -21,31 +21,31 @@ from_at low i [] d a below = absurd (omega arith)
 from_at low zero (s ∷ segments) d (here, rest) below = record { low = omega arith; some = here.some; counted = here.counted; first = here.first; last = here.last }
 from_at low (suc i) (s ∷ segments) d (here, rest) below = from_at s.to i segments d rest (omega arith)
 
-region_end : (s : Segment) → IsFrom 0 s → end_of (region_of s) ≡ s.to
+region_end : (s : Segment) → IsFrom 0 s → end_of (segment_region s) ≡ s.to
 region_end s f = omega (arith, f.first, f.some)
 
-region_start : (s : Segment) → IsFrom 0 s → start_of (region_of s) ≡ s.from
+region_start : (s : Segment) → IsFrom 0 s → start_of (segment_region s) ≡ s.from
 region_start s f = omega (arith, f.first)
 
 -- what a read gives at a place in the list
-read_some : (segments : List Segment) (i : ℕ) (d : Segment) (r : Region) → Some r ≡ option_map region_of (slice_get segments i) → i < length segments → r ≡ region_of (get_or segments i d)
+read_some : (segments : List Segment) (i : ℕ) (d : Segment) (r : Region) → Some r ≡ option_map segment_region (slice_get segments i) → i < length segments → r ≡ segment_region (get_or segments i d)
 read_some segments i d r e below =
-    ap (λ (o : Option Region). unwrap_or o r) (e ∙ ap (option_map region_of) (slice_get-get_or segments i d below))
+    ap (λ (o : Option Region). unwrap_or o r) (e ∙ ap (option_map segment_region) (slice_get-get_or segments i d below))
 
-pub read_end : (segments : List Segment) (i : ℕ) (d : Segment) (r : Region) → Ascend 0 segments → Some r ≡ option_map region_of (slice_get segments i) → i < length segments → end_of r ≡ (get_or segments i d).to
+pub read_end : (segments : List Segment) (i : ℕ) (d : Segment) (r : Region) → Ascend 0 segments → Some r ≡ option_map segment_region (slice_get segments i) → i < length segments → end_of r ≡ (get_or segments i d).to
 read_end segments i d r a e below = ap end_of (read_some segments i d r e below) ∙ region_end (get_or segments i d) (from_at 0 i segments d a below)
 
-pub read_start : (segments : List Segment) (i : ℕ) (d : Segment) (r : Region) → Ascend 0 segments → Some r ≡ option_map region_of (slice_get segments i) → i < length segments → start_of r ≡ (get_or segments i d).from
+pub read_start : (segments : List Segment) (i : ℕ) (d : Segment) (r : Region) → Ascend 0 segments → Some r ≡ option_map segment_region (slice_get segments i) → i < length segments → start_of r ≡ (get_or segments i d).from
 read_start segments i d r a e below = ap start_of (read_some segments i d r e below) ∙ region_start (get_or segments i d) (from_at 0 i segments d a below)
 
 some_none : (r : Region) → ◌≡◌ {A = Option Region} (Some r) None → ⊥
 some_none r e = cc
 
-pub read_inside : (segments : List Segment) (i : ℕ) (r : Region) → Some r ≡ option_map region_of (slice_get segments i) → length segments ≤ i → ⊥
-read_inside segments i r e past = some_none r (e ∙ ap (option_map region_of) (slice_get_past segments i past))
+pub read_inside : (segments : List Segment) (i : ℕ) (r : Region) → Some r ≡ option_map segment_region (slice_get segments i) → length segments ≤ i → ⊥
+read_inside segments i r e past = some_none r (e ∙ ap (option_map segment_region) (slice_get_past segments i past))
 
-pub read_none : (segments : List Segment) (i : ℕ) (d : Segment) → ◌≡◌ {A = Option Region} None (option_map region_of (slice_get segments i)) → i < length segments → ⊥
-read_none segments i d e below = some_none (region_of (get_or segments i d)) (sym (e ∙ ap (option_map region_of) (slice_get-get_or segments i d below)))
+pub read_none : (segments : List Segment) (i : ℕ) (d : Segment) → ◌≡◌ {A = Option Region} None (option_map segment_region (slice_get segments i)) → i < length segments → ⊥
+read_none segments i d e below = some_none (segment_region (get_or segments i d)) (sym (e ∙ ap (option_map segment_region) (slice_get-get_or segments i d below)))
 
 -- half of a number has a digit less
 pub half_digits : (n : ℕ) → 0 < n → binary_digits n ≡ binary_digits (n / 2) + 1

@@ -6,7 +6,7 @@ use Rattle.cp_base.specs.declared.region.SpaceId.{SpaceId}
 use Rattle.range_claims.specs.Changes.{new_between, raised}
 use Rattle.range_claims.specs.Counts.{count_at, held_at}
 use Rattle.range_claims.specs.Places.{base_of}
-use Rattle.range_claims.specs.Segments.{Ascend, Differ, Follows, IsCut, IsFrom}
+use Rattle.range_claims.specs.Segments.{Ascend, Differ, IsCut, IsFrom, MeetsNextAt}
 use Rattle.range_claims.specs.declared.segments.Segment.{Segment}
 use Rattle.range_claims.proofs.Basics.{Ascend_lower, chosen, count_append, held_since, le_false, le_true, lt_false, lt_true, since, since_one, since_zero}
 use Rattle.range_claims.proofs.Cuts.{cut_before}
@@ -75,42 +75,42 @@ raise_ascend low space from to (s ∷ segments) l h first last (here, rest) (f, 
     (record { low = omega arith; some = here.some; counted = omega arith; first = here.first; last = here.last }, others)))
 
 -- new bytes before segments that they may touch
-new_differ : (P : ℕ → Type 0) (space : SpaceId) (from to : ℕ) (segments : List Segment) → Follows P (once space from to) segments → Differ P segments
+new_differ : (P : ℕ → Type 0) (space : SpaceId) (from to : ℕ) (segments : List Segment) → MeetsNextAt P (once space from to) segments → Differ P segments
     → Differ P (new_between space from to ++ segments)
 new_differ P space from to segments f h =
     chosen (λ (made : List Segment). Differ P (made ++ segments)) (nat_lt from to) (once space from to ∷ []) [] (λ _. (f, h)) (λ _. h)
 
 -- a segment before the range, and what is behind it now
 follows_raised : (P : ℕ → Type 0) (space : SpaceId) (s : Segment) (from to : ℕ) (segments : List Segment) → P from → s.to ≤ from → IsCut from segments
-    → Follows P s segments → Follows P s (raised space from to segments)
+    → MeetsNextAt P s segments → MeetsNextAt P s (raised space from to segments)
 follows_raised P space s from to [] there h f old =
-    chosen (Follows P s) (nat_lt from to) (once space from to ∷ []) [] (λ _. λ touch same. subst P touch there) (λ _. tt)
+    chosen (MeetsNextAt P s) (nat_lt from to) (once space from to ∷ []) [] (λ _. λ touch same. subst P touch there) (λ _. tt)
 follows_raised P space s from to (t ∷ segments) there h (f, fs) old =
     let More : List Segment = record t { count = t.count + 1 } ∷ raised space t.to to segments in
-    chosen (Follows P s) (nat_le t.to from) (t ∷ raised space from to segments) _ (λ _. old)
+    chosen (MeetsNextAt P s) (nat_le t.to from) (t ∷ raised space from to segments) _ (λ _. old)
     (λ n. let after = le_false t.to from n in
-    chosen (Follows P s) (nat_le to t.from) (new_between space from to ++ t ∷ segments) _
-    (λ _. chosen (λ (made : List Segment). Follows P s (made ++ t ∷ segments)) (nat_lt from to) (once space from to ∷ []) [] (λ _. λ touch same. subst P touch there) (λ _. old))
-    (λ _. chosen (λ (made : List Segment). Follows P s (made ++ More)) (nat_lt from t.from) (once space from t.from ∷ []) [] (λ _. λ touch same. subst P touch there)
+    chosen (MeetsNextAt P s) (nat_le to t.from) (new_between space from to ++ t ∷ segments) _
+    (λ _. chosen (λ (made : List Segment). MeetsNextAt P s (made ++ t ∷ segments)) (nat_lt from to) (once space from to ∷ []) [] (λ _. λ touch same. subst P touch there) (λ _. old))
+    (λ _. chosen (λ (made : List Segment). MeetsNextAt P s (made ++ More)) (nat_lt from t.from) (once space from t.from ∷ []) [] (λ _. λ touch same. subst P touch there)
     (λ m. λ touch same. let here : from ≡ s.to = ⊎_elim (λ (p : t.to ≤ from). absurd (omega arith)) (λ (q : from ≤ t.from). omega (arith, lt_false from t.from m, touch)) f in subst P here there)))
 
 -- a raised segment, and what is behind it now
 follows_within : (P : ℕ → Type 0) (space : SpaceId) (s : Segment) (to : ℕ) (segments : List Segment) → P to → s.to ≤ to → 0 < s.count → Ascend s.to segments
-    → Follows P s segments → Follows P (record s { count = s.count + 1 }) (raised space s.to to segments)
+    → MeetsNextAt P s segments → MeetsNextAt P (record s { count = s.count + 1 }) (raised space s.to to segments)
 follows_within P space s to [] there h c a old =
-    chosen (Follows P (record s { count = s.count + 1 })) (nat_lt s.to to) (once space s.to to ∷ []) [] (λ _. λ touch same. absurd (omega (arith, same))) (λ _. tt)
+    chosen (MeetsNextAt P (record s { count = s.count + 1 })) (nat_lt s.to to) (once space s.to to ∷ []) [] (λ _. λ touch same. absurd (omega (arith, same))) (λ _. tt)
 follows_within P space s to (t ∷ segments) there h c (here, rest) old =
     let S : Segment = record s { count = s.count + 1 } in
     let More : List Segment = record t { count = t.count + 1 } ∷ raised space t.to to segments in
-    chosen (Follows P S) (nat_le t.to s.to) (t ∷ raised space s.to to segments) _ (λ b. absurd (omega (arith, le_true t.to s.to b, here.low, here.some)))
-    (λ n. chosen (Follows P S) (nat_le to t.from) (new_between space s.to to ++ t ∷ segments) _
-    (λ _. chosen (λ (made : List Segment). Follows P S (made ++ t ∷ segments)) (nat_lt s.to to) (once space s.to to ∷ []) [] (λ _. λ touch same. absurd (omega (arith, same)))
+    chosen (MeetsNextAt P S) (nat_le t.to s.to) (t ∷ raised space s.to to segments) _ (λ b. absurd (omega (arith, le_true t.to s.to b, here.low, here.some)))
+    (λ n. chosen (MeetsNextAt P S) (nat_le to t.from) (new_between space s.to to ++ t ∷ segments) _
+    (λ _. chosen (λ (made : List Segment). MeetsNextAt P S (made ++ t ∷ segments)) (nat_lt s.to to) (once space s.to to ∷ []) [] (λ _. λ touch same. absurd (omega (arith, same)))
     (λ m. λ touch same. let at_end : to ≡ s.to = omega (arith, lt_false s.to to m) in subst P at_end there))
-    (λ _. chosen (λ (made : List Segment). Follows P S (made ++ More)) (nat_lt s.to t.from) (once space s.to t.from ∷ []) [] (λ _. λ touch same. absurd (omega (arith, same)))
+    (λ _. chosen (λ (made : List Segment). MeetsNextAt P S (made ++ More)) (nat_lt s.to t.from) (once space s.to t.from ∷ []) [] (λ _. λ touch same. absurd (omega (arith, same)))
     (λ _. λ touch same. old touch (omega (arith, same)))))
 
 -- new bytes, and the raised segment behind them
-follows_new : (P : ℕ → Type 0) (space : SpaceId) (from : ℕ) (s : Segment) (segments : List Segment) → 0 < s.count → Follows P (once space from s.from) (record s { count = s.count + 1 } ∷ segments)
+follows_new : (P : ℕ → Type 0) (space : SpaceId) (from : ℕ) (s : Segment) (segments : List Segment) → 0 < s.count → MeetsNextAt P (once space from s.from) (record s { count = s.count + 1 } ∷ segments)
 follows_new P space from s segments c = λ touch same. absurd (omega (arith, same))
 
 -- from the first segment that the range has on

@@ -23,14 +23,14 @@ IsCut place [] = Unit {0}
 IsCut place (s ∷ segments) = ((s.to ≤ place) ⊎ (place ≤ s.from)) × IsCut place segments
 
 -- where a segment and the first of those behind it touch and count the same, the place where they touch is one of these
-abbrev pub Follows : (ℕ → Type 0) → Segment → List Segment → Type 0
-Follows P s [] = Unit {0}
-Follows P s (t ∷ segments) = t.from ≡ s.to → t.count ≡ s.count → P s.to
+abbrev pub MeetsNextAt : (ℕ → Type 0) → Segment → List Segment → Type 0
+MeetsNextAt P s [] = Unit {0}
+MeetsNextAt P s (t ∷ segments) = t.from ≡ s.to → t.count ≡ s.count → P s.to
 
 -- neighbours that touch and count the same touch only at such places
 abbrev pub Differ : (ℕ → Type 0) → List Segment → Type 0
 Differ P [] = Unit {0}
-Differ P (s ∷ segments) = Follows P s segments × Differ P segments
+Differ P (s ∷ segments) = MeetsNextAt P s segments × Differ P segments
 
 -- no place
 abbrev pub Nowhere : ℕ → Type 0

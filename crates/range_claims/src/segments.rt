@@ -6,7 +6,7 @@ ghost use Rattle.range_claims.specs.Counts.{AreCounted, IsPlaced, count_at, coun
 ghost use Rattle.range_claims.specs.Places.{base_of, end_of, start_of};
 ghost use Rattle.range_claims.specs.declared.segments.Segment.{Segment};
 ghost use Rattle.range_claims.specs.Segments.{AreMaximal, AreSmall, Ascend, IsCut, IsFrom};
-ghost use Rattle.range_claims.specs.Steps.{region_of};
+ghost use Rattle.range_claims.specs.Steps.{segment_region};
 
 use crate::places::{base, end, start};
 use crate::steps::Steps;
@@ -159,7 +159,7 @@ fn lower(list: &mut Vec<Segment>, from: u64, to: u64)
 // The bytes of a segment.
 fn bytes_of(segment: &Segment) -> Option<ByteRange>
     requires { IsFrom 0 segment.now }
-    ensures { result ≡ Some (region_of segment.now) }
+    ensures { result ≡ Some (segment_region segment.now) }
 {
     let first = base(segment.space);
     ByteRange::new(
@@ -243,7 +243,7 @@ impl Segments {
 
     // The bytes of a segment, for one step. `None` exactly where there are not so many segments, for one step too.
     pub(crate) fn probe<L: Ledger>(&self, i: usize, steps: &mut Steps<L>) -> Option<ByteRange>
-        ensures value { result ≡ option_map region_of (slice_get self.now.segments i) }
+        ensures value { result ≡ option_map segment_region (slice_get self.now.segments i) }
         ensures steps { steps.new ≡ steps.old + 1 }
     {
         steps.add_one();

@@ -1,5 +1,6 @@
 // The line of an entry.
 ghost use Rattle.cp_base.specs.Growth.{Appended, Pushed};
+ghost use Rattle.cp_base.specs.declared.limits.TheConstants.{MAX_TRANSFER};
 ghost use Rattle.std.specs.Prelude.{◌≡◌, ◌+◌, ◌<◌, ◌≤◌, ◌++◌, length, OnOk, OnErr, IsOk};
 ghost use Rattle.replay_print.specs.Lines.{entry_line};
 ghost use Rattle.replay_print.specs.Parts.{name_text, outcome_text};
@@ -86,7 +87,7 @@ fn outcome_len(word: CommandWord, status: Status, value: u64) -> u64
 /// data has at most 8,192 bytes.
 pub fn push_entry(out: &mut Bytes, k: u32, entry: &EntryLine) -> Result<(), NoMemory>
     ensures pushed { Pushed result out.old out.new (entry_line k entry.now) }
-    ensures reserved { length entry.now.bytes.now ≤ 8192 → LONGEST_LINE ≤ out.old.spare → IsOk result }
+    ensures reserved { length entry.now.bytes.now ≤ MAX_TRANSFER → LONGEST_LINE ≤ out.old.spare → IsOk result }
 {
     let name = name_len(k, entry.host, entry.ordinal, entry.cid);
     let outcome = outcome_len(entry.word, entry.status, entry.result);

@@ -1,5 +1,6 @@
 // How long the lines can be.
 ghost use Rattle.std.specs.Prelude.{ℕ, ◌^◌, ◌<◌, ◌≤◌, List, length};
+ghost use Rattle.cp_base.specs.declared.limits.TheConstants.{MAX_TRANSFER};
 ghost use Rattle.cp_base.specs.declared.replies.Status.{Status};
 ghost use Rattle.script_cmds.specs.declared.item.Show.{Show};
 ghost use Rattle.cp_base.specs.declared.commands.CommandWord.{CommandWord};
@@ -14,11 +15,11 @@ pub const LONGEST_LINE: u64 = 16_482;
 /// No line is longer than `LONGEST_LINE`. The function does nothing; its clauses are the laws.
 pub fn line_lengths()
     ensures entry { (k host ordinal cid : ℕ) (word : CommandWord) (status : Status) (value : ℕ) (bytes : List ℕ)
-        → k < 2 ^ 32 → host < 2 ^ 32 → ordinal < 2 ^ 32 → cid < 2 ^ 32 → value < 2 ^ 64 → length bytes ≤ 8192
+        → k < 2 ^ 32 → host < 2 ^ 32 → ordinal < 2 ^ 32 → cid < 2 ^ 32 → value < 2 ^ 64 → length bytes ≤ MAX_TRANSFER
         → length (line_of_entry k host ordinal cid word status value bytes) ≤ LONGEST_LINE }
     ensures show { (show : Show) (bytes : List ℕ)
         → number_of_space show.range.space < 2 ^ 32 → show.range.start < 2 ^ 64 → show.range.len < 2 ^ 64
-        → length bytes ≤ 8192 → length (shown_text show bytes) ≤ LONGEST_LINE }
+        → length bytes ≤ MAX_TRANSFER → length (shown_text show bytes) ≤ LONGEST_LINE }
     ensures summary { (commands ok other total : ℕ)
         → commands < 2 ^ 32 → ok < 2 ^ 32 → other < 2 ^ 32 → total < 2 ^ 64
         → length (lines_of_summary commands ok other total) ≤ LONGEST_LINE }

@@ -1,6 +1,7 @@
 // The pieces that the lines share, and the room for a line.
 ghost use Rattle.std.specs.Prelude.{◌≡◌, ◌+◌, ◌*◌, ◌<◌, ◌≤◌, ◌^◌, ◌++◌, length, OnOk, OnErr, IsOk};
 ghost use Rattle.cp_base.specs.Growth.{Appended, Reserved};
+ghost use Rattle.cp_base.specs.declared.limits.TheConstants.{MAX_TRANSFER};
 ghost use Rattle.history_model.specs.Text.{lettered};
 ghost use Rattle.replay_print.specs.Parts.{data_text};
 
@@ -42,7 +43,7 @@ pub(crate) fn lettered_len(letters: &str, n: u64) -> u64
 pub(crate) fn make_line_room(out: &mut Bytes, front: u64, bytes: &[u8]) -> Result<(), NoMemory>
     requires { front ≤ 94 }
     ensures room { Reserved result out.old out.new (front + length (data_text bytes.now)) }
-    ensures reserved { length bytes.now ≤ 8192 → LONGEST_LINE ≤ out.old.spare → IsOk result }
+    ensures reserved { length bytes.now ≤ MAX_TRANSFER → LONGEST_LINE ≤ out.old.spare → IsOk result }
 {
     // No room is as large as a length that is past all numbers.
     let _room = out.spare();

@@ -1,5 +1,6 @@
 // The line of a show.
 ghost use Rattle.cp_base.specs.Growth.{Appended, Pushed};
+ghost use Rattle.cp_base.specs.declared.limits.TheConstants.{MAX_TRANSFER};
 ghost use Rattle.std.specs.Prelude.{◌≡◌, ◌+◌, ◌<◌, ◌≤◌, ◌++◌, length, OnOk, OnErr, IsOk};
 ghost use Rattle.script_line.specs.Line.{line_text};
 ghost use Rattle.script_cmds.specs.Text.{show_line};
@@ -48,7 +49,7 @@ fn range_len(show: &Show) -> u64
 /// the line needs, so never where there is room for the longest line and there are at most 8,192 bytes.
 pub fn push_show(out: &mut Bytes, show: &Show, bytes: &[u8]) -> Result<(), NoMemory>
     ensures pushed { Pushed result out.old out.new (shown_text show.now bytes.now) }
-    ensures reserved { length bytes.now ≤ 8192 → LONGEST_LINE ≤ out.old.spare → IsOk result }
+    ensures reserved { length bytes.now ≤ MAX_TRANSFER → LONGEST_LINE ≤ out.old.spare → IsOk result }
 {
     make_line_room(out, range_len(show), bytes)?;
     append_show(out, show, bytes);

@@ -35,7 +35,7 @@ use Rattle.script_cmds.specs.Fault.{after_lines, judged}
 use Rattle.script_cmds.specs.Hosts.{AscendFrom, HasHosts, HaveHosts, hosts_of}
 use Rattle.script_cmds.specs.Kept.{KeepsOrderAndLimits}
 use Rattle.script_cmds.specs.Progress.{advanced, has_room, header_queues, host_follows, is_in_order, is_start, names_queues, start}
-use Rattle.script_cmds.specs.Queues.{PartsSendToQueues, PhasesSendToQueues, SendToQueues, queue_of, queues_in, queues_of}
+use Rattle.script_cmds.specs.Queues.{PartsSendToQueues, PhasesSendToQueues, SendToQueues, queue_of_cid, queues_in, queues_of}
 use Rattle.script_cmds.specs.Text.{configuration_lines, header_line, header_numbers, item_line, item_lines, lines_of, numbers_line, part_lines, phase_lines, show_lines, size_lines}
 use Rattle.script_cmds.proofs.Keeping.{both_true}
 use Rattle.script_cmds.proofs.Meanings.{host_says, within_means}
@@ -234,7 +234,7 @@ few_sends script kept =
 -- ---- queues
 
 -- the identifier of a send line, which keeps its limits, is one of the queues
-send_to : (v : Version) (queues cid : ℕ) (c : Command) → line_fits (send_line v cid c) ≡ true → names_queues (queues_in v queues) (send_line v cid c).values ≡ true → queue_of cid < queues_in v queues
+send_to : (v : Version) (queues cid : ℕ) (c : Command) → line_fits (send_line v cid c) ≡ true → names_queues (queues_in v queues) (send_line v cid c).values ≡ true → queue_of_cid cid < queues_in v queues
 send_to version.One queues cid c fits names =
     let few = (within_means 0 MAX_CID cid (both_true (is_within 0 MAX_CID cid) _ fits).0).1 in
     omega (arith, few)

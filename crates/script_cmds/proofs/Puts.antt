@@ -31,7 +31,7 @@ use Rattle.script_cmds.specs.declared.progress.Stage.TheVariants.{AtStart, After
 use Rattle.script_cmds.specs.Fault.{judged, after_lines}
 use Rattle.script_cmds.specs.Progress.{start, is_in_order, is_within_limits, has_room, advanced, is_start, is_after_show, is_block, is_in_part, header_budget, header_depth, header_queues, host_follows, namespace_follows, space_of}
 use Rattle.script_cmds.specs.Text.{header_line, header_numbers, numbers_line, size_lines, configuration_lines, item_lines, part_lines, phase_lines, show_lines}
-use Rattle.script_cmds.specs.private.Drafts.{Drafted, open_part_lines, open_lines, header_lines, lines_so_far, draft_lines, IsZeroFrom, HasNothing, HasSizes, IsTidy, IsDraft}
+use Rattle.script_cmds.specs.private.Drafts.{Drafted, open_part_lines, open_lines, header_lines, lines_so_far, draft_lines, IsZeroFrom, HasNothing, HasNoneBehind, IsTidy, IsDraft}
 use Rattle.script_cmds.specs.private.Stored.{AddsItem, AddsShow, EndsPart, EndsPhase, Stored}
 use Rattle.script_cmds.proofs.Keeping.{both_true, false_unless, header_keeps, space_keeps}
 use Rattle.script_cmds.proofs.Meanings.{HeaderSays, NamespaceSays, header_says, host_says, namespace_says, no_value}
@@ -163,7 +163,7 @@ nvm_config f c place k size z m le lt s =
 -- one more namespace, and what is tidy then
 record Configured (f : Form) (s : Stage) (c : Configuration) (kind : SpaceKind) (n size : ℕ) : Type 0 where
   lines : configuration_lines f (with_size c (space_of kind n) size) ≡ configuration_lines f c ++ numbers_line (line.Namespace kind) (n ∷ size ∷ []) ∷ []
-  sizes : HasSizes kind n (with_size c (space_of kind n) size)
+  sizes : HasNoneBehind kind n (with_size c (space_of kind n) size)
   begun : is_start s ≡ false
 
 nvm_more : (f : Form) (s : Stage) (c : Configuration) (place k size : ℕ) → is_start s ≡ false → IsZeroFrom place c.nvm → IsZeroFrom 0 c.mem → place ≤ k → k < length c.nvm → eqb size 0 ≡ false → Configured f s c space_kind.Nvm (suc k) size

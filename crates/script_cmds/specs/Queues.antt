@@ -1,5 +1,6 @@
 -- The queues of a host: how many there are, how deep each is, and to which of them a command is sent. This project's own.
 use Rattle.std.specs.Prelude.{◌≡◌, ℕ, ◌*◌, ◌/◌, ◌<◌, All, List, [], ◌∷◌}
+use Rattle.script_line.specs.declared.limits.TheConstants.{QUEUE_CIDS}
 use Rattle.script_line.specs.declared.version.Version.{Version}
 use Rattle.script_line.specs.declared.version.Version.TheVariants.{One, Two}
 use Rattle.script_cmds.specs.declared.form.Form.{Form}
@@ -27,13 +28,13 @@ pub record AreExact (form : Form) (depth : ℕ) : Type 0 where
   pub multiple : depth ≡ queues_of form * queue_depth form depth
 
 -- the queue of an identifier, counted from 0: each has 65,536 identifiers
-abbrev pub queue_of : ℕ → ℕ
-queue_of cid = cid / 65536
+abbrev pub queue_of_cid : ℕ → ℕ
+queue_of_cid cid = cid / QUEUE_CIDS
 
 -- each command that items send goes to one of so many queues
 abbrev pub SendToQueues : ℕ → List Item → Type 0
 SendToQueues queues [] = Unit {0}
-SendToQueues queues (item.Send cid command ∷ items) = (queue_of cid < queues) × SendToQueues queues items
+SendToQueues queues (item.Send cid command ∷ items) = (queue_of_cid cid < queues) × SendToQueues queues items
 SendToQueues queues (item.Take cid ∷ items) = SendToQueues queues items
 
 -- the same of each part of a phase

@@ -1,6 +1,6 @@
 -- A queue and an identifier in it.
 use Rattle.std.proofs.Common.{◌≡◌, ℕ, List, [], ◌∷◌, Option, Some, None, Result, Ok, Err, refl, sym, ap, ◌∙◌}
-use Rattle.cp_text.specs.Number.{number_of}
+use Rattle.cp_text.specs.Number.{spelled_number}
 use Rattle.cp_text.specs.Parts.{parts_between}
 use Rattle.cp_text.proofs.Cuts.{some_part}
 use Rattle.script_line.specs.declared.fault.TextCause.{TextCause}
@@ -25,8 +25,8 @@ none_second : (a : Option ℕ) → pair a None ≡ Err cause.Number
 none_second None = refl
 none_second (Some a) = refl
 
-pub no_queue : (a b : List ℕ) → number_of a ≡ None → queued_in (a ∷ b ∷ []) ≡ Err cause.Number
-no_queue a b e = ap (λ (o : Option ℕ). pair o (number_of b)) e ∙ none_first (number_of b)
+pub no_queue : (a b : List ℕ) → spelled_number a ≡ None → queued_in (a ∷ b ∷ []) ≡ Err cause.Number
+no_queue a b e = ap (λ (o : Option ℕ). pair o (spelled_number b)) e ∙ none_first (spelled_number b)
 
-pub no_cid : (a b : List ℕ) → number_of b ≡ None → queued_in (a ∷ b ∷ []) ≡ Err cause.Number
-no_cid a b e = ap (λ (o : Option ℕ). pair (number_of a) o) e ∙ none_second (number_of a)
+pub no_cid : (a b : List ℕ) → spelled_number b ≡ None → queued_in (a ∷ b ∷ []) ≡ Err cause.Number
+no_cid a b e = ap (λ (o : Option ℕ). pair (spelled_number a) o) e ∙ none_second (spelled_number a)

@@ -10,7 +10,7 @@ use Rattle.cp_base.specs.declared.lists.CopySource.TheVariants as source
 use Rattle.cp_base.specs.declared.lists.MemRange.{MemRange}
 use Rattle.cp_text.specs.HexText.{hex_of, hex_text}
 use Rattle.cp_text.proofs.HexTexts.{hex_of-text}
-use Rattle.cp_text.proofs.NumberTexts.{number_of-decimal}
+use Rattle.cp_text.proofs.NumberTexts.{spelled_number-decimal}
 use Rattle.cp_text.specs.Parts.{all_lack, joined_by, lacks, parts_between}
 use Rattle.cp_text.proofs.Joined.{IsNoDigit, all_lack_cons, decimal_lacks, hex_lacks, joined_lacks, lacks_both, lacks_cons, parts_again}
 use Rattle.cp_base.specs.Commands.{all_words, command_word, word_text}
@@ -25,7 +25,7 @@ use Rattle.script_line.specs.declared.kind.LineKind.TheVariants as line
 use Rattle.script_line.specs.declared.kind.SpaceKind.TheVariants as space_kind
 use Rattle.script_line.specs.Field.{Field, IsShaped, Word, Number, Identifier, Hex, Sources, Ranges, Value, Count, Queued, Data, Copied, Covered, access_parts, queued_text, triple_text, source_text, range_text, field_texts}
 use Rattle.script_line.specs.Line.{Line, command_fields, fields_of, line_text}
-use Rattle.script_line.specs.Reading.{◌>>=◌, line_of, kind_of, both, after_name, or_cause, read_number, read_queued, queued_in, changed, read_three, read_triple, nvm_source, mem_source, mem_range, range_in, read_source, read_range, read_each, read_behind, read_field, read_fields}
+use Rattle.script_line.specs.Reading.{◌>>=◌, line_of, kind_of, both, after_name, or_cause, read_number, read_queued, queued_in, changed, read_three_numbers, read_triple, nvm_source, mem_source, mem_range, range_in, read_source, read_range, read_each, read_behind, read_field, read_fields}
 use Rattle.script_line.specs.Versions.{IsOfVersion}
 use Rattle.script_line.specs.declared.version.Version.{Version}
 use Rattle.script_line.specs.declared.version.Version.TheVariants as version
@@ -36,9 +36,9 @@ use Rattle.script_line.proofs.Spelled.{ok_is}
 -- ---- numbers, sources and ranges
 
 number_again : (n : ℕ) → n < 2 ^ 64 → read_number (decimal n) ≡ Ok n
-number_again n lt = ap (or_cause cause.Number) (number_of-decimal n lt)
+number_again n lt = ap (or_cause cause.Number) (spelled_number-decimal n lt)
 
-three_again : (a b c : ℕ) → a < 2 ^ 64 → b < 2 ^ 64 → c < 2 ^ 64 → read_three (decimal a) (decimal b) (decimal c) ≡ Ok (record { ns = a; start = b; len = c })
+three_again : (a b c : ℕ) → a < 2 ^ 64 → b < 2 ^ 64 → c < 2 ^ 64 → read_three_numbers (decimal a) (decimal b) (decimal c) ≡ Ok (record { ns = a; start = b; len = c })
 three_again a b c p q r = rw (number_again a p, number_again b q, number_again c r) refl
 
 -- three numbers, and more parts behind them, have no mark

@@ -13,10 +13,10 @@ use Rattle.script_line.specs.declared.version.Version.{Version}
 use Rattle.script_line.specs.declared.version.Version.TheVariants as version
 use Rattle.script_line.specs.Field.{Field, IsShaped, Hex, Sources, Value, Count, Queued, Data, Copied, Covered}
 use Rattle.script_line.specs.Fits.{is_within, values_fit}
-use Rattle.script_line.specs.Line.{command_fields, counts, identifier_field, identifier_value, large, small}
+use Rattle.script_line.specs.Line.{command_fields, counts, identifier_field, identifier_value, narrow, wide}
 use Rattle.script_line.specs.Sized.{IsSized}
 use Rattle.script_line.specs.Values.{identifier_at, identifier_in, number_at, range_view, source_view, value_view}
-use Rattle.script_line.specs.private.Outcomes.{bytes_in, ranges_at, sources_at}
+use Rattle.script_line.specs.private.Outcomes.{data_in, ranges_at, sources_at}
 
 pub no_value : (vs : List Value) → IsShaped [] vs → vs ≡ []
 no_value [] h = refl
@@ -40,9 +40,9 @@ viewed (x ∷ xs) v = ap (λ (ws : List Value). value_view x ∷ ws) (viewed xs 
 some_is : (v w : Value) → Some v ≡ Some w → v ≡ w
 some_is v w e = cc
 
-pub last_bytes : (vs : List FieldValue) (v : FieldValue) (front : List Value) (bytes : List ℕ) → map value_view (vs ++ v ∷ []) ≡ front ++ Data bytes ∷ [] → bytes_in (value_view v) ≡ bytes
+pub last_bytes : (vs : List FieldValue) (v : FieldValue) (front : List Value) (bytes : List ℕ) → map value_view (vs ++ v ∷ []) ≡ front ++ Data bytes ∷ [] → data_in (value_view v) ≡ bytes
 last_bytes vs v front bytes e =
-    ap bytes_in (some_is (value_view v) (Data bytes) (sym (last_is (map value_view vs) (value_view v)) ∙ ap last_of (sym (viewed vs v) ∙ e) ∙ last_is front (Data bytes)))
+    ap data_in (some_is (value_view v) (Data bytes) (sym (last_is (map value_view vs) (value_view v)) ∙ ap last_of (sym (viewed vs v) ∙ e) ∙ last_is front (Data bytes)))
 
 pub never_none : (front : List Value) (bytes : List ℕ) → [] ≡ front ++ Data bytes ∷ [] → ⊥
 never_none [] bytes e = absurd cc
@@ -86,7 +86,7 @@ identifier_said v name fields _ s e = absurd s
 
 -- ---- what the fields of some send lines say behind the identifier
 
-pub write_values : (a b : List ℕ) (vs : List Value) → IsShaped (small a ∷ large b ∷ Hex (codes "data=") ∷ []) vs → (bytes : List ℕ) × (vs ≡ counts (number_at vs 0 ∷ number_at vs 1 ∷ []) ++ Data bytes ∷ [])
+pub write_values : (a b : List ℕ) (vs : List Value) → IsShaped (narrow a ∷ wide b ∷ Hex (codes "data=") ∷ []) vs → (bytes : List ℕ) × (vs ≡ counts (number_at vs 0 ∷ number_at vs 1 ∷ []) ++ Data bytes ∷ [])
 write_values a b (Count y ∷ Count z ∷ Data bytes ∷ []) h = (bytes, refl)
 write_values a b _ h = absurd h
 
@@ -128,7 +128,7 @@ sized_behind old new e all = subst (λ (xs : List FieldValue). All IsSized (map 
 some_of : {A B : Type 0} (f : A → B) (xs : List A) (ys : List B) → map f xs ≡ ys → 0 < length ys → 0 < length xs
 some_of f xs ys e h = omega (arith, length-map xs f, ap length e)
 
-copied : (a b : List ℕ) (vs : List Value) → IsShaped (small a ∷ large b ∷ Sources (codes "from=") ∷ []) vs → All IsSized vs → 0 < length (sources_at vs 2)
+copied : (a b : List ℕ) (vs : List Value) → IsShaped (narrow a ∷ wide b ∷ Sources (codes "from=") ∷ []) vs → All IsSized vs → 0 < length (sources_at vs 2)
 copied a b (Count y ∷ Count z ∷ Copied s ∷ []) h all = (all 2 (Count 0) (omega arith)).0
 copied a b _ h all = absurd h
 

@@ -6,9 +6,9 @@ use Rattle.cp_text.proofs.Cuts.{some_part}
 use Rattle.std.specs.Str.{bytes_eq}
 use Rattle.std.proofs.lemmas.Bool.{eqb-true}
 use Rattle.std.proofs.lemmas.Slice.Eq.{bytes_eq-Decides}
-use Rattle.cp_text.specs.Number.{number_of}
+use Rattle.cp_text.specs.Number.{spelled_number}
 use Rattle.cp_text.specs.HexText.{hex_of, hex_text}
-use Rattle.cp_text.proofs.NumberTexts.{number_of-spelled}
+use Rattle.cp_text.proofs.NumberTexts.{spelled_number-spelled}
 use Rattle.cp_text.proofs.HexTexts.{hex_of-spelled}
 use Rattle.cp_base.specs.declared.lists.Access.TheVariants as access
 use Rattle.cp_base.specs.declared.lists.CopySource.{CopySource}
@@ -19,7 +19,7 @@ use Rattle.cp_text.specs.Parts.{joined_by, parts_between}
 use Rattle.cp_text.proofs.Joined.{joined_again}
 use Rattle.script_line.specs.declared.field.Triple.{Triple}
 use Rattle.script_line.specs.Field.{Field, IsShaped, Word, Number, Identifier, Hex, Sources, Ranges, Value, Count, Queued, Data, Copied, Covered, access_parts, queued_text, triple_text, source_text, range_text, field_texts}
-use Rattle.script_line.specs.Reading.{both, after_name, or_cause, queued_in, read_number, read_queued, changed, read_three, read_triple, nvm_source, mem_source, mem_range, range_in, read_source, read_range, read_each, read_behind, read_field, read_fields}
+use Rattle.script_line.specs.Reading.{both, after_name, or_cause, queued_in, read_number, read_queued, changed, read_three_numbers, read_triple, nvm_source, mem_source, mem_range, range_in, read_source, read_range, read_each, read_behind, read_field, read_fields}
 use Rattle.script_line.specs.Sized.{IsSized, IsSizedRange, IsSizedSource}
 
 pub ok_is : {A : Type 0} (x y : A) → ◌≡◌ {A = Result A TextCause} (Ok x) (Ok y) → x ≡ y
@@ -56,7 +56,7 @@ after_name-some (c ∷ cs) (d ∷ ds) rest e =
     ap (λ (x : ℕ). x ∷ (cs ++ rest)) (sym same) ∙ ap (λ (t : List ℕ). d ∷ t) (after_name-some cs ds rest p.1)
 
 number_spelled : (text : List ℕ) (n : ℕ) → read_number text ≡ Ok n → (decimal n ≡ text) × (n < 2 ^ 64)
-number_spelled text n e = let p = number_of-spelled text n (or_cause_ok cause.Number (number_of text) n e) in (sym p.0, p.1)
+number_spelled text n e = let p = spelled_number-spelled text n (or_cause_ok cause.Number (spelled_number text) n e) in (sym p.0, p.1)
 
 -- a queue and an identifier in it
 record QueuedSays (value : Value) (parts : List (List ℕ)) : Type 0 where
@@ -80,7 +80,7 @@ queued_parts (a ∷ b ∷ []) v e =
 abbrev IsSmall : Triple → Type 0
 IsSmall t = (t.ns < 2 ^ 64) × (t.start < 2 ^ 64) × (t.len < 2 ^ 64)
 
-three_spelled : (a b c : List ℕ) (t : Triple) → read_three a b c ≡ Ok t → (decimal t.ns ≡ a) × (decimal t.start ≡ b) × (decimal t.len ≡ c) × IsSmall t
+three_spelled : (a b c : List ℕ) (t : Triple) → read_three_numbers a b c ≡ Ok t → (decimal t.ns ≡ a) × (decimal t.start ≡ b) × (decimal t.len ≡ c) × IsSmall t
 three_spelled a b c t e =
     let make : ℕ → ℕ → ℕ → Triple = λ x y z. record { ns = x; start = y; len = z } in
     let p = both_ok (λ (f : ℕ → Triple) (z : ℕ). f z) (both make (read_number a) (read_number b)) (read_number c) t e in
@@ -124,9 +124,9 @@ source_spelled (kind ∷ text) s e = source_by (eqb kind 110) (eqb kind 109) kin
 abbrev range_parts : MemRange → List (List ℕ)
 range_parts range = decimal range.ns ∷ decimal range.at ∷ decimal range.len ∷ access_parts range.access
 
-read_only : (b : Bool) (a c d e : List ℕ) (r : MemRange) → (b ≡ true → e ≡ codes "r") → cond b (changed (mem_range access.ReadOnly) (read_three a c d)) (Err cause.Field) ≡ Ok r → (range_parts r ≡ a ∷ c ∷ d ∷ e ∷ []) × IsSizedRange r
+read_only : (b : Bool) (a c d e : List ℕ) (r : MemRange) → (b ≡ true → e ≡ codes "r") → cond b (changed (mem_range access.ReadOnly) (read_three_numbers a c d)) (Err cause.Field) ≡ Ok r → (range_parts r ≡ a ∷ c ∷ d ∷ e ∷ []) × IsSizedRange r
 read_only true a c d e r is h =
-    let p = changed_ok (mem_range access.ReadOnly) (read_three a c d) r h in
+    let p = changed_ok (mem_range access.ReadOnly) (read_three_numbers a c d) r h in
     let q = three_spelled a c d p.0 p.1 in
     subst (λ (x : MemRange). (range_parts x ≡ a ∷ c ∷ d ∷ e ∷ []) × IsSizedRange x) p.2 (rw (q.0, q.1, q.2, is refl) refl, q.3)
 read_only false a c d e r is h = absurd cc
@@ -136,7 +136,7 @@ range_in_parts [] r e = absurd cc
 range_in_parts (a ∷ []) r e = absurd cc
 range_in_parts (a ∷ b ∷ []) r e = absurd cc
 range_in_parts (a ∷ b ∷ c ∷ []) r e =
-    let p = changed_ok (mem_range access.ReadWrite) (read_three a b c) r e in
+    let p = changed_ok (mem_range access.ReadWrite) (read_three_numbers a b c) r e in
     let q = three_spelled a b c p.0 p.1 in
     subst (λ (x : MemRange). (range_parts x ≡ a ∷ b ∷ c ∷ []) × IsSizedRange x) p.2 (rw (q.0, q.1, q.2) refl, q.3)
 range_in_parts (a ∷ b ∷ c ∷ d ∷ []) r e = read_only (bytes_eq d (codes "r")) a b c d r (bytes_eq-Decides d (codes "r")).0 e

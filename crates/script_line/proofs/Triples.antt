@@ -1,12 +1,12 @@
 -- Three numbers with colons between, and lists of what is read one by one.
 use Rattle.std.proofs.Common.{◌≡◌, ℕ, suc, ◌<◌, arith, List, [], ◌∷◌, ◌++◌, length, Option, Some, None, Result, Ok, Err, refl, sym, ap, ◌∙◌}
-use Rattle.cp_text.specs.Number.{number_of}
+use Rattle.cp_text.specs.Number.{spelled_number}
 use Rattle.script_line.specs.declared.fault.TextCause.{TextCause}
 use Rattle.script_line.specs.declared.fault.TextCause.TheVariants as cause
 use Rattle.script_line.specs.declared.field.Triple.{Triple}
 use Rattle.cp_text.specs.Parts.{parts_between}
 use Rattle.cp_text.proofs.Cuts.{some_part}
-use Rattle.script_line.specs.Reading.{both, changed, or_cause, range_in, read_each, read_three, read_triple}
+use Rattle.script_line.specs.Reading.{both, changed, or_cause, range_in, read_each, read_three_numbers, read_triple}
 use Rattle.script_line.specs.private.Outcomes.{noted, followed}
 use Rattle.script_line.proofs.Outcomes.{said, faulty}
 
@@ -51,14 +51,14 @@ none_third None (Some b) = refl
 none_third (Some a) None = refl
 none_third (Some a) (Some b) = refl
 
-pub no_first : (a b c : List ℕ) → number_of a ≡ None → read_three a b c ≡ Err cause.Number
-no_first a b c e = ap (λ (o : Option ℕ). triple o (number_of b) (number_of c)) e ∙ none_first (number_of b) (number_of c)
+pub no_first : (a b c : List ℕ) → spelled_number a ≡ None → read_three_numbers a b c ≡ Err cause.Number
+no_first a b c e = ap (λ (o : Option ℕ). triple o (spelled_number b) (spelled_number c)) e ∙ none_first (spelled_number b) (spelled_number c)
 
-pub no_second : (a b c : List ℕ) → number_of b ≡ None → read_three a b c ≡ Err cause.Number
-no_second a b c e = ap (λ (o : Option ℕ). triple (number_of a) o (number_of c)) e ∙ none_second (number_of a) (number_of c)
+pub no_second : (a b c : List ℕ) → spelled_number b ≡ None → read_three_numbers a b c ≡ Err cause.Number
+no_second a b c e = ap (λ (o : Option ℕ). triple (spelled_number a) o (spelled_number c)) e ∙ none_second (spelled_number a) (spelled_number c)
 
-pub no_third : (a b c : List ℕ) → number_of c ≡ None → read_three a b c ≡ Err cause.Number
-no_third a b c e = ap (λ (o : Option ℕ). triple (number_of a) (number_of b) o) e ∙ none_third (number_of a) (number_of b)
+pub no_third : (a b c : List ℕ) → spelled_number c ≡ None → read_three_numbers a b c ≡ Err cause.Number
+no_third a b c e = ap (λ (o : Option ℕ). triple (spelled_number a) (spelled_number b) o) e ∙ none_third (spelled_number a) (spelled_number b)
 
 -- how much is left of a text that may be missing
 abbrev pub left : Option (List ℕ) → ℕ
@@ -75,5 +75,5 @@ pub each_err : {A : Type 0} (read : List ℕ → Result A TextCause) (fault : Op
 each_err {A} read fault xs c part parts total e h =
     faulty fault xs c (read_each read parts) ∙ sym (ap (λ (r : Result A TextCause). followed fault xs (both (λ a b. a ++ b) (changed (λ y. y ∷ []) r) (read_each read parts))) e) ∙ h
 
-pub all_three : (a b c : List ℕ) (x y z : ℕ) → Some x ≡ number_of a → Some y ≡ number_of b → Some z ≡ number_of c → read_three a b c ≡ Ok (record { ns = x; start = y; len = z })
-all_three a b c x y z e f g = ap (λ (o : Option ℕ). triple o (number_of b) (number_of c)) (sym e) ∙ ap (λ (o : Option ℕ). triple (Some x) o (number_of c)) (sym f) ∙ ap (λ (o : Option ℕ). triple (Some x) (Some y) o) (sym g)
+pub all_three : (a b c : List ℕ) (x y z : ℕ) → Some x ≡ spelled_number a → Some y ≡ spelled_number b → Some z ≡ spelled_number c → read_three_numbers a b c ≡ Ok (record { ns = x; start = y; len = z })
+all_three a b c x y z e f g = ap (λ (o : Option ℕ). triple o (spelled_number b) (spelled_number c)) (sym e) ∙ ap (λ (o : Option ℕ). triple (Some x) o (spelled_number c)) (sym f) ∙ ap (λ (o : Option ℕ). triple (Some x) (Some y) o) (sym g)

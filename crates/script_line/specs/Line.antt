@@ -11,7 +11,7 @@ use Rattle.script_line.specs.declared.kind.LineKind.{LineKind}
 use Rattle.script_line.specs.declared.kind.LineKind.TheVariants.{Header, Namespace, Phase, Host, Send, Take, Show}
 use Rattle.script_line.specs.declared.kind.SpaceKind.{SpaceKind}
 use Rattle.script_line.specs.declared.kind.SpaceKind.TheVariants.{Nvm, Mem}
-use Rattle.script_line.specs.declared.limits.TheConstants.{MAX_CID, MAX_32, MAX_64, MAX_VALUE, VERSION_1, VERSION_2}
+use Rattle.script_line.specs.declared.limits.TheConstants.{MAX_CID, MAX_32, MAX_64, MAX_VALUE, QUEUE_CIDS, VERSION_1, VERSION_2}
 use Rattle.script_line.specs.declared.version.Version.{Version}
 use Rattle.script_line.specs.declared.version.Version.TheVariants.{One, Two}
 use Rattle.script_line.specs.Field.{Field, Word, Number, Identifier, Hex, Sources, Ranges, Value, Count, Queued, Data, Copied, Covered, field_texts}
@@ -22,11 +22,11 @@ pub record Line : Type 0 where
   pub values : List Value
 
 -- a number of 32 bits, and one of 64 bits
-abbrev pub small : List ℕ → Field
-small name = Number name 0 MAX_32
+abbrev pub narrow : List ℕ → Field
+narrow name = Number name 0 MAX_32
 
-abbrev pub large : List ℕ → Field
-large name = Number name 0 MAX_64
+abbrev pub wide : List ℕ → Field
+wide name = Number name 0 MAX_64
 
 -- the identifier of a command behind a name: in version 1 a number, in version 2 that of a queue before it
 abbrev pub identifier_field : Version → List ℕ → Field
@@ -35,23 +35,23 @@ identifier_field Two name = Identifier name
 
 -- the fields of a command, in their order
 abbrev pub command_fields : Version → CommandWord → List Field
-command_fields version word.NvmRead = small (codes "ns=") ∷ large (codes "lba=") ∷ large (codes "count=") ∷ []
-command_fields version word.NvmWrite = small (codes "ns=") ∷ large (codes "lba=") ∷ Hex (codes "data=") ∷ []
-command_fields version word.NvmZeroes = small (codes "ns=") ∷ large (codes "lba=") ∷ large (codes "count=") ∷ []
-command_fields version word.NvmCopy = small (codes "ns=") ∷ large (codes "lba=") ∷ Sources (codes "from=") ∷ []
-command_fields version word.MemRead = small (codes "ns=") ∷ large (codes "at=") ∷ large (codes "len=") ∷ []
-command_fields version word.MemWrite = small (codes "ns=") ∷ large (codes "at=") ∷ Hex (codes "data=") ∷ []
+command_fields version word.NvmRead = narrow (codes "ns=") ∷ wide (codes "lba=") ∷ wide (codes "count=") ∷ []
+command_fields version word.NvmWrite = narrow (codes "ns=") ∷ wide (codes "lba=") ∷ Hex (codes "data=") ∷ []
+command_fields version word.NvmZeroes = narrow (codes "ns=") ∷ wide (codes "lba=") ∷ wide (codes "count=") ∷ []
+command_fields version word.NvmCopy = narrow (codes "ns=") ∷ wide (codes "lba=") ∷ Sources (codes "from=") ∷ []
+command_fields version word.MemRead = narrow (codes "ns=") ∷ wide (codes "at=") ∷ wide (codes "len=") ∷ []
+command_fields version word.MemWrite = narrow (codes "ns=") ∷ wide (codes "at=") ∷ Hex (codes "data=") ∷ []
 command_fields version word.MemFill =
-    small (codes "ns=") ∷ large (codes "at=") ∷ large (codes "len=") ∷ Number (codes "value=") 0 MAX_VALUE ∷ []
-command_fields version word.MemCopy = small (codes "ns=") ∷ large (codes "at=") ∷ Sources (codes "from=") ∷ []
+    narrow (codes "ns=") ∷ wide (codes "at=") ∷ wide (codes "len=") ∷ Number (codes "value=") 0 MAX_VALUE ∷ []
+command_fields version word.MemCopy = narrow (codes "ns=") ∷ wide (codes "at=") ∷ Sources (codes "from=") ∷ []
 command_fields version word.SetCreate = Ranges (codes "ranges=") ∷ []
-command_fields version word.SetDelete = small (codes "set=") ∷ []
-command_fields version word.Load = small (codes "slot=") ∷ large (codes "size=") ∷ large (codes "at=") ∷ Hex (codes "data=") ∷ []
-command_fields version word.Unload = small (codes "slot=") ∷ []
-command_fields version word.Activate = small (codes "slot=") ∷ []
-command_fields version word.Deactivate = small (codes "slot=") ∷ []
+command_fields version word.SetDelete = narrow (codes "set=") ∷ []
+command_fields version word.Load = narrow (codes "slot=") ∷ wide (codes "size=") ∷ wide (codes "at=") ∷ Hex (codes "data=") ∷ []
+command_fields version word.Unload = narrow (codes "slot=") ∷ []
+command_fields version word.Activate = narrow (codes "slot=") ∷ []
+command_fields version word.Deactivate = narrow (codes "slot=") ∷ []
 command_fields version word.Execute =
-    small (codes "slot=") ∷ small (codes "set=") ∷ large (codes "p1=") ∷ large (codes "p2=") ∷ large (codes "budget=") ∷ []
+    narrow (codes "slot=") ∷ narrow (codes "set=") ∷ wide (codes "p1=") ∷ wide (codes "p2=") ∷ wide (codes "budget=") ∷ []
 command_fields version word.Abort = identifier_field version (codes "cid=") ∷ []
 
 -- the word of a kind of namespace
@@ -71,10 +71,10 @@ space_number = Number [] 1 NAMESPACES
 -- the fields of a header behind its first: the version, and in version 2 a number of queues among the limits
 abbrev pub header_fields : Version → List Field
 header_fields One =
-    Word (codes "1") ∷ large (codes "block=") ∷ Number (codes "depth=") 1 VERSION_1.depth
+    Word (codes "1") ∷ wide (codes "block=") ∷ Number (codes "depth=") 1 VERSION_1.depth
     ∷ Number (codes "budget=") 1 VERSION_1.budget ∷ []
 header_fields Two =
-    Word (codes "2") ∷ large (codes "block=") ∷ Number (codes "queues=") 1 VERSION_2.queues
+    Word (codes "2") ∷ wide (codes "block=") ∷ Number (codes "queues=") 1 VERSION_2.queues
     ∷ Number (codes "depth=") 1 VERSION_2.depth ∷ Number (codes "budget=") 1 VERSION_2.budget ∷ []
 
 -- all fields of a line, its words among them
@@ -86,7 +86,7 @@ fields_of Host = Word (codes "host") ∷ Number [] 1 MAX_HOSTS ∷ []
 fields_of (Send version word) = Word (codes "send") ∷ identifier_field version [] ∷ Word (word_text word) ∷ command_fields version word
 fields_of (Take version) = Word (codes "take") ∷ identifier_field version [] ∷ []
 fields_of (Show kind) =
-    Word (codes "show") ∷ Word (space_text kind) ∷ space_number ∷ large (codes "at=") ∷ Number (codes "len=") 1 MAX_TRANSFER ∷ []
+    Word (codes "show") ∷ Word (space_text kind) ∷ space_number ∷ wide (codes "at=") ∷ Number (codes "len=") 1 MAX_TRANSFER ∷ []
 
 -- the one text of a line, without its newline: its fields with one space between two
 abbrev pub line_text : Line → List ℕ
@@ -99,7 +99,7 @@ counts numbers = map (λ n. Count n) numbers
 -- what the identifier of a command says, which the device counts over all queues
 abbrev pub identifier_value : Version → ℕ → Value
 identifier_value One id = Count id
-identifier_value Two id = Queued (id / 65536 + 1) (id % 65536)
+identifier_value Two id = Queued (id / QUEUE_CIDS + 1) (id % QUEUE_CIDS)
 
 -- what the fields of a send line say behind the identifier
 abbrev pub command_values : Version → Command → List Value

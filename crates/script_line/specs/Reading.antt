@@ -2,7 +2,7 @@
 use Rattle.std.specs.Prelude.{ℕ, ◌==◌, nat_le, Bool, true, false, List, [], ◌∷◌, ◌++◌, Option, Some, None, option_map, Result, Ok, Err, if◌then◌else◌, codes}
 use Rattle.std.specs.Str.{bytes_eq}
 use Rattle.cp_text.specs.HexText.{hex_of}
-use Rattle.cp_text.specs.Number.{number_of}
+use Rattle.cp_text.specs.Number.{spelled_number}
 use Rattle.cp_text.specs.Parts.{parts_between}
 use Rattle.cp_base.specs.Commands.{command_word}
 use Rattle.cp_base.specs.declared.lists.Access.{Access}
@@ -59,7 +59,7 @@ or_cause e (Some x) = Ok x
 
 -- a number that is read
 abbrev pub read_number : List ℕ → Result ℕ TextCause
-read_number text = or_cause cause.Number (number_of text)
+read_number text = or_cause cause.Number (spelled_number text)
 
 -- what was read, changed by a function
 abbrev pub changed : {A B : Type 0} → (A → B) → Result A TextCause → Result B TextCause
@@ -75,12 +75,12 @@ abbrev pub read_queued : List ℕ → Result Value TextCause
 read_queued text = queued_in (parts_between 58 text)
 
 -- three numbers
-abbrev pub read_three : List ℕ → List ℕ → List ℕ → Result Triple TextCause
-read_three a b c =
+abbrev pub read_three_numbers : List ℕ → List ℕ → List ℕ → Result Triple TextCause
+read_three_numbers a b c =
     both (λ (make : ℕ → Triple) (z : ℕ). make z) (both (λ (x y z : ℕ). record { ns = x; start = y; len = z }) (read_number a) (read_number b)) (read_number c)
 
 abbrev pub read_triple : List (List ℕ) → Result Triple TextCause
-read_triple (a ∷ b ∷ c ∷ []) = read_three a b c
+read_triple (a ∷ b ∷ c ∷ []) = read_three_numbers a b c
 read_triple _ = Err cause.Field
 
 abbrev pub nvm_source : Triple → CopySource
@@ -100,8 +100,8 @@ read_source (kind ∷ text) =
 
 -- three numbers, and where an r stands behind them the range is read only
 abbrev pub range_in : List (List ℕ) → Result MemRange TextCause
-range_in (a ∷ b ∷ c ∷ []) = changed (mem_range access.ReadWrite) (read_three a b c)
-range_in (a ∷ b ∷ c ∷ d ∷ []) = if bytes_eq d (codes "r") then changed (mem_range access.ReadOnly) (read_three a b c) else Err cause.Field
+range_in (a ∷ b ∷ c ∷ []) = changed (mem_range access.ReadWrite) (read_three_numbers a b c)
+range_in (a ∷ b ∷ c ∷ d ∷ []) = if bytes_eq d (codes "r") then changed (mem_range access.ReadOnly) (read_three_numbers a b c) else Err cause.Field
 range_in _ = Err cause.Field
 
 abbrev pub read_range : List ℕ → Result MemRange TextCause

@@ -12,6 +12,7 @@ use Rattle.script_line.specs.declared.field.SourceText.{SourceText}
 use Rattle.script_line.specs.declared.field.SourceText.TheVariants as spelled
 use Rattle.script_line.specs.declared.content.FieldContent.{FieldContent}
 use Rattle.script_line.specs.declared.content.FieldContent.TheVariants as content
+use Rattle.script_line.specs.declared.limits.TheConstants.{QUEUE_CIDS}
 use Rattle.script_line.specs.declared.reading.ReadLine.{ReadLine}
 use Rattle.script_line.specs.Field.{Value, Count, Queued, Data, Copied, Covered}
 use Rattle.script_line.specs.Line.{Line}
@@ -49,9 +50,9 @@ abbrev pub Fails : {Y : Type 0} → LineEnd → Result Y TextCause → Type 0
 Fails ends.NoMemory read = Unit {0}
 Fails (ends.Fault cause) read = read ≡ Err cause
 
-abbrev pub Gives : {X Y : Type 0} → (X → Y) → Result X LineEnd → Result Y TextCause → Type 0
-Gives view (Ok x) read = read ≡ Ok (view x)
-Gives view (Err e) read = Fails e read
+abbrev pub ReadsAs : {X Y : Type 0} → (X → Y) → Result X LineEnd → Result Y TextCause → Type 0
+ReadsAs view (Ok x) read = read ≡ Ok (view x)
+ReadsAs view (Err e) read = Fails e read
 
 -- the number that a field says; 0 where there is none
 abbrev pub number_in : Option Value → ℕ
@@ -66,7 +67,7 @@ number_at values place = number_in (slice_get values place)
 -- each of which has 65,536; 0 where there is none
 abbrev pub identifier_in : Option Value → ℕ
 identifier_in (Some (Count n)) = n
-identifier_in (Some (Queued queue cid)) = (queue - 1) * 65536 + cid
+identifier_in (Some (Queued queue cid)) = (queue - 1) * QUEUE_CIDS + cid
 identifier_in _ = 0
 
 -- the identifier at a place of what a line's fields say

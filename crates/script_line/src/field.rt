@@ -8,10 +8,10 @@ ghost use Rattle.script_line.specs.Values.{identifier_at, identifier_in, number_
 ghost use Rattle.script_line.specs.declared.field.RangeText.{RangeText};
 ghost use Rattle.script_line.specs.declared.field.SourceText.{SourceText};
 ghost use Rattle.script_line.specs.declared.limits.TheConstants.{MAX_32};
-ghost use Rattle.script_line.specs.private.Outcomes.{bytes_in, field_view, ranges_at, ranges_in, sources_at, sources_in};
+ghost use Rattle.script_line.specs.private.Outcomes.{data_in, field_view, ranges_at, ranges_in, sources_at, sources_in};
 ghost use Rattle.script_line.specs.private.Pushed.{front_of, is_word};
 
-use crate::limits::{MAX_32, MAX_CID, VERSION_2};
+use crate::limits::{MAX_32, MAX_CID, QUEUE_CIDS, VERSION_2};
 use cp_base::{Access, Bytes, MAX_ITEMS};
 use std::alloc::Global;
 
@@ -178,7 +178,7 @@ impl FieldValue {
     {
         match self {
             FieldValue::Count(n) => *n,
-            FieldValue::Queued(queue, cid) => queue.saturating_sub(1) * 65_536 + *cid,
+            FieldValue::Queued(queue, cid) => queue.saturating_sub(1) * QUEUE_CIDS + *cid,
             FieldValue::Data(_) | FieldValue::Copied(_) | FieldValue::Covered(_) => 0,
         }
     }
@@ -198,7 +198,7 @@ impl FieldValue {
 
     /// The data that it says; none where it says none.
     pub fn into_data(self, alloc: Global) -> Bytes
-        ensures { result.items ≡ bytes_in (value_view self) }
+        ensures { result.items ≡ data_in (value_view self) }
     {
         match self {
             FieldValue::Data(bytes) => bytes,

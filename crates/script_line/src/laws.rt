@@ -10,7 +10,7 @@ ghost use Rattle.script_line.specs.Sized.{IsLine};
 ghost use Rattle.script_line.specs.Values.{identifier_in};
 ghost use Rattle.script_line.specs.Versions.{IsOfVersion};
 ghost use Rattle.script_line.specs.declared.fault.TextCause.TheVariants as cause;
-ghost use Rattle.script_line.specs.declared.limits.TheConstants.{MAX_32, MAX_64, MAX_CID, MAX_VALUE, VERSION_1, VERSION_2};
+ghost use Rattle.script_line.specs.declared.limits.TheConstants.{MAX_32, MAX_64, MAX_CID, MAX_VALUE, QUEUE_CIDS, VERSION_1, VERSION_2};
 
 use crate::Version;
 
@@ -58,6 +58,7 @@ pub fn range_examples()
 /// The values of the limits.
 pub fn limits_by_example()
     ensures cid { MAX_CID ≡ 65535 }
+    ensures queue { QUEUE_CIDS ≡ MAX_CID + 1 }
     ensures value { MAX_VALUE ≡ 255 }
     ensures small { MAX_32 + 1 ≡ 2 ^ 32 }
     ensures large { MAX_64 + 1 ≡ 2 ^ 64 }

@@ -9,6 +9,9 @@ pub const MAX_64: u64 = 18_446_744_073_709_551_615;
 /// The largest command identifier.
 pub const MAX_CID: u64 = 65_535;
 
+/// How many command identifiers a queue has, which are numbered from 0.
+pub const QUEUE_CIDS: u64 = 65_536;
+
 /// The largest value that a fill puts.
 pub const MAX_VALUE: u64 = 255;
 

@@ -1,8 +1,8 @@
 // Numbers, and the lists of sources and ranges, by their texts.
 ghost use Rattle.std.specs.Prelude.{◌≡◌, ℕ, List, ◌∷◌, [], map, IfOk, MatchOption, option_map};
 ghost use Rattle.cp_text.specs.Parts.{parts_between, parts_in};
-ghost use Rattle.script_line.specs.Reading.{range_in, read_each, read_number, read_queued, read_range, read_source, read_three, read_triple};
-ghost use Rattle.script_line.specs.Values.{Gives, range_view, source_view, value_view};
+ghost use Rattle.script_line.specs.Reading.{range_in, read_each, read_number, read_queued, read_range, read_source, read_three_numbers, read_triple};
+ghost use Rattle.script_line.specs.Values.{ReadsAs, range_view, source_view, value_view};
 ghost use Rattle.script_line.specs.private.Outcomes.{IsShort, followed, noted, range_with};
 
 use crate::field::{FieldValue, RangeText, SourceText, Triple};
@@ -13,7 +13,7 @@ use std::alloc::Global;
 
 /// A number by its text.
 pub fn read_number(text: &[u8]) -> Result<u64, LineEnd>
-    ensures { Gives (λ n. n) result (read_number text.now) }
+    ensures { ReadsAs (λ n. n) result (read_number text.now) }
 {
     match number(text) {
         Some(n) => Ok(n),
@@ -24,7 +24,7 @@ pub fn read_number(text: &[u8]) -> Result<u64, LineEnd>
 /// A queue and an identifier in it, with a colon between.
 #[tactic(auto, using(crate::proofs::Queues::one_part, crate::proofs::Queues::three_parts, crate::proofs::Queues::no_queue, crate::proofs::Queues::no_cid))]
 pub fn read_queued(text: &[u8]) -> Result<FieldValue, LineEnd>
-    ensures { Gives value_view result (read_queued text.now) }
+    ensures { ReadsAs value_view result (read_queued text.now) }
 {
     let (queue, rest) = split_part(text, b':');
     let Some(rest) = rest else {
@@ -59,7 +59,7 @@ fn three_parts(text: &[u8]) -> Option<Parts>
 // Three numbers with colons between.
 #[tactic(auto, using(crate::proofs::Triples::four_parts, crate::proofs::Triples::short_triple))]
 fn read_triple(text: &[u8]) -> Result<Triple, LineEnd>
-    ensures { Gives (λ t. t) result (read_triple (parts_between 58 text.now)) }
+    ensures { ReadsAs (λ t. t) result (read_triple (parts_between 58 text.now)) }
 {
     match three_parts(text) {
         Some((ns, start, len, None)) => numbers_of(ns, start, len),
@@ -70,7 +70,7 @@ fn read_triple(text: &[u8]) -> Result<Triple, LineEnd>
 // Three numbers by their texts.
 #[tactic(auto, using(crate::proofs::Triples::no_first, crate::proofs::Triples::no_second, crate::proofs::Triples::no_third))]
 fn numbers_of(ns: &[u8], start: &[u8], len: &[u8]) -> Result<Triple, LineEnd>
-    ensures { Gives (λ t. t) result (read_three ns.now start.now len.now) }
+    ensures { ReadsAs (λ t. t) result (read_three_numbers ns.now start.now len.now) }
 {
     let Some(ns) = number(ns) else {
         return Err(LineEnd::Fault(TextCause::Number));
@@ -86,7 +86,7 @@ fn numbers_of(ns: &[u8], start: &[u8], len: &[u8]) -> Result<Triple, LineEnd>
 
 // A source by its text.
 fn read_source(text: &[u8]) -> Result<SourceText, LineEnd>
-    ensures { Gives source_view result (read_source text.now) }
+    ensures { ReadsAs source_view result (read_source text.now) }
 {
     let Some((kind, rest)) = text.split_first() else {
         return Err(LineEnd::Fault(TextCause::Field));
@@ -103,7 +103,7 @@ fn read_source(text: &[u8]) -> Result<SourceText, LineEnd>
 // A range by its text.
 #[tactic(auto, using(crate::proofs::Triples::short_range))]
 fn read_range(text: &[u8]) -> Result<RangeText, LineEnd>
-    ensures { Gives range_view result (read_range text.now) }
+    ensures { ReadsAs range_view result (read_range text.now) }
 {
     let Some((ns, start, len, rest)) = three_parts(text) else {
         return Err(LineEnd::Fault(TextCause::Field));
@@ -142,7 +142,7 @@ pub fn noted(fault: Option<TextCause>, cause: TextCause) -> Option<TextCause>
 
 /// Sources by their text.
 pub fn read_sources(alloc: Global, text: &[u8]) -> Result<Vec<SourceText>, LineEnd>
-    ensures { Gives (λ sources. map source_view sources.items) result (read_each read_source (parts_between 44 text.now)) }
+    ensures { ReadsAs (λ sources. map source_view sources.items) result (read_each read_source (parts_between 44 text.now)) }
 {
     let mut sources = Vec::new(alloc);
     let mut fault = None;
@@ -180,7 +180,7 @@ fn take_source(
 
 /// Ranges by their text.
 pub fn read_ranges(alloc: Global, text: &[u8]) -> Result<Vec<RangeText>, LineEnd>
-    ensures { Gives (λ ranges. map range_view ranges.items) result (read_each read_range (parts_between 44 text.now)) }
+    ensures { ReadsAs (λ ranges. map range_view ranges.items) result (read_each read_range (parts_between 44 text.now)) }
 {
     let mut ranges = Vec::new(alloc);
     let mut fault = None;

@@ -7,8 +7,8 @@ ghost use Rattle.script_line.specs.Field as grammar;
 ghost use Rattle.script_line.specs.Field.{Value};
 ghost use Rattle.script_line.specs.Fits.{line_fits, values_fit};
 ghost use Rattle.script_line.specs.Reading.{both, line_of, or_cause, read_field};
-ghost use Rattle.script_line.specs.Values.{Gives, line_view, value_view};
-ghost use Rattle.script_line.specs.private.Outcomes.{field_view, noted, outcome, outcome_with, read_identifier, read_rest, so_far, values_of, version_of};
+ghost use Rattle.script_line.specs.Values.{ReadsAs, line_view, value_view};
+ghost use Rattle.script_line.specs.private.Outcomes.{field_view, noted, outcome_with, read_identifier, read_rest, reading_outcome, so_far, values_of, version_of};
 
 use crate::field::{Field, FieldValue, after_name};
 use crate::kind::{CutLine, identifier_field};
@@ -29,7 +29,7 @@ pub struct ReadLine {
 /// it states. The line's place in a script, and whether what it says keeps its limits, are not looked at. `NoMemory`
 /// where memory is wanting.
 pub fn read_line(alloc: Global, version: Version, text: &[u8]) -> Result<ReadLine, LineEnd>
-    ensures { Gives line_view result (line_of version text.now) }
+    ensures { ReadsAs line_view result (line_of version text.now) }
 {
     let cut = match LineKind::cut(version, text) {
         Ok(cut) => cut,
@@ -42,7 +42,7 @@ pub fn read_line(alloc: Global, version: Version, text: &[u8]) -> Result<ReadLin
 
 // What the fields of a line say, whose words are read.
 fn read_values(alloc: Global, line: CutLine) -> Result<Vec<FieldValue>, LineEnd>
-    ensures { Gives (λ values. map value_view values.items) result (read_rest line.entry) }
+    ensures { ReadsAs (λ values. map value_view values.items) result (read_rest line.entry) }
 {
     let mut reading = read_identifier(alloc, line)?;
     reading.take_all(alloc, line.kind.fields_behind())?;
@@ -53,7 +53,7 @@ fn read_values(alloc: Global, line: CutLine) -> Result<Vec<FieldValue>, LineEnd>
 #[tactic(auto, using(crate::proofs::Heads::nothing_first))]
 fn read_identifier(alloc: Global, line: CutLine) -> Result<Reading, NoMemory>
     ensures read { IfOk result (λ reading. (more : Result (List Value) TextCause)
-        → outcome reading more ≡ both (λ xs ys. xs ++ ys) (read_identifier (version_of line.entry.kind) (option_map (λ text. text.now) line.entry.identifier)) more) }
+        → reading_outcome reading more ≡ both (λ xs ys. xs ++ ys) (read_identifier (version_of line.entry.kind) (option_map (λ text. text.now) line.entry.identifier)) more) }
     ensures rest { IfOk result (λ reading. reading.rest ≡ line.entry.rest) }
 {
     let mut reading = Reading::new(alloc, line.rest);
@@ -92,7 +92,7 @@ fn values_fit(fields: &[Field], values: &[FieldValue]) -> bool
 
 // Data by its text.
 fn read_data(alloc: Global, text: &[u8]) -> Result<Bytes, LineEnd>
-    ensures { Gives (λ bytes. bytes.items) result (or_cause cause.Hex (hex_of text.now)) }
+    ensures { ReadsAs (λ bytes. bytes.items) result (or_cause cause.Hex (hex_of text.now)) }
 {
     match hex_bytes(alloc, text)? {
         Some(bytes) => Ok(bytes),
@@ -102,7 +102,7 @@ fn read_data(alloc: Global, text: &[u8]) -> Result<Bytes, LineEnd>
 
 // What a field says by its text. A word says nothing more than itself.
 fn read_field(alloc: Global, field: Field, text: &[u8]) -> Result<Option<FieldValue>, LineEnd>
-    ensures { Gives (λ value. values_of value) result (read_field (field_view field) text.now) }
+    ensures { ReadsAs (λ value. values_of value) result (read_field (field_view field) text.now) }
 {
     match field {
         Field::Word(word) => read_word(word, text),
@@ -131,7 +131,7 @@ fn read_field(alloc: Global, field: Field, text: &[u8]) -> Result<Option<FieldVa
 
 // This very word.
 fn read_word(word: &[u8], text: &[u8]) -> Result<Option<FieldValue>, LineEnd>
-    ensures { Gives (λ value. values_of value) result (read_field (grammar.Word word.now) text.now) }
+    ensures { ReadsAs (λ value. values_of value) result (read_field (grammar.Word word.now) text.now) }
 {
     if text == word {
         Ok(None)
@@ -166,7 +166,7 @@ impl<'a> Reading<'a> {
     // Reads a field by its text.
     fn read(&mut self, alloc: Global, field: Field, text: &[u8]) -> Result<(), NoMemory>
         ensures read { OnOk result ((more : Result (List Value) TextCause)
-            → outcome self.new more ≡ outcome self.old (both (λ xs ys. xs ++ ys) (read_field (field_view field) text.now) more)) }
+            → reading_outcome self.new more ≡ reading_outcome self.old (both (λ xs ys. xs ++ ys) (read_field (field_view field) text.now) more)) }
         ensures rest { OnOk result (self.new.rest ≡ self.old.rest) }
     {
         match read_field(alloc, field, text) {
@@ -219,7 +219,7 @@ impl<'a> Reading<'a> {
 
     // What the fields say, if they are all.
     fn finish(self) -> Result<Vec<FieldValue>, LineEnd>
-        ensures { Gives (λ values. map value_view values.items) result (outcome_with self.entry []) }
+        ensures { ReadsAs (λ values. map value_view values.items) result (outcome_with self.entry []) }
     {
         match self.last_fault() {
             None => Ok(self.values),

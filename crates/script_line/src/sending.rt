@@ -8,6 +8,7 @@ ghost use Rattle.script_line.specs.Values.{content_view};
 ghost use Rattle.script_line.specs.declared.content.FieldContent.TheVariants as said;
 
 use crate::content::FieldContent::{self, Copied, Count, Covered, Data, Queued};
+use crate::limits::QUEUE_CIDS;
 use crate::{LineKind, Version, push_line};
 use cp_base::{Bytes, Command, NoMemory, SourceList};
 
@@ -72,7 +73,7 @@ fn identifier(version: Version, cid: u32) -> FieldContent<'static>
     let cid = u64::from(cid);
     match version {
         Version::One => Count(cid),
-        Version::Two => Queued(cid / 65_536 + 1, cid % 65_536),
+        Version::Two => Queued(cid / QUEUE_CIDS + 1, cid % QUEUE_CIDS),
     }
 }
 

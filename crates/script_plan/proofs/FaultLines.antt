@@ -17,7 +17,7 @@ use Rattle.script_line.specs.declared.version.Version.{Version}
 use Rattle.script_line.specs.declared.version.Version.TheVariants as version
 use Rattle.script_cmds.specs.declared.form.Form.{Form}
 use Rattle.script_cmds.specs.Progress.{header_depth}
-use Rattle.script_cmds.specs.Queues.{queue_depth, queue_of, queues_in}
+use Rattle.script_cmds.specs.Queues.{queue_depth, queue_of_cid, queues_in}
 use Rattle.script_cmds.specs.declared.item.Item.{Item}
 use Rattle.script_cmds.specs.declared.item.Item.TheVariants as item
 use Rattle.script_cmds.specs.declared.item.HostPart.{HostPart}
@@ -46,7 +46,7 @@ host_first (l ∷ ls) = is_host l.kind
 -- a send and a take at a line, and what comes after them
 abbrev at_send : ℕ → ℕ → List ℕ → ℕ → (List ℕ → Option PlanFault) → Option PlanFault
 at_send depth number outstanding cid go =
-    if nat_le depth (in_queue (queue_of cid) outstanding) then told_at number QueueFull else if is_outstanding cid outstanding then told_at number CidBusy else go (outstanding ++ cid ∷ [])
+    if nat_le depth (in_queue (queue_of_cid cid) outstanding) then told_at number QueueFull else if is_outstanding cid outstanding then told_at number CidBusy else go (outstanding ++ cid ∷ [])
 
 abbrev at_take : ℕ → List ℕ → ℕ → (List ℕ → Option PlanFault) → Option PlanFault
 at_take number outstanding cid go = if is_outstanding cid outstanding then go (filter (λ other. not (other == cid)) outstanding) else told_at number NotOutstanding
@@ -116,7 +116,7 @@ scan_items f depth number outstanding (item.Send cid sent ∷ items) rest free =
     let more = scan_items f depth (number + 1) (outstanding ++ cid ∷ []) items rest free in
     let next : Option PlanFault = scan depth (number + suc (length items)) [] rest in
     ap (λ n. at_send depth number outstanding n (λ left. scan depth (number + 1) left (item_lines f items ++ rest))) (said_again f.version cid)
-    ∙ send_fault number (nat_le depth (in_queue (queue_of cid) outstanding)) (is_outstanding cid outstanding) (planned_items depth (number + 1) (outstanding ++ cid ∷ []) items) (λ xs. item.Send cid sent ∷ xs)
+    ∙ send_fault number (nat_le depth (in_queue (queue_of_cid cid) outstanding)) (is_outstanding cid outstanding) (planned_items depth (number + 1) (outstanding ++ cid ∷ []) items) (λ xs. item.Send cid sent ∷ xs)
     (scan depth (number + 1) (outstanding ++ cid ∷ []) (item_lines f items ++ rest)) next
     (more ∙ ap (λ n. option_or (fault_of (planned_items depth (number + 1) (outstanding ++ cid ∷ []) items)) (scan depth n [] rest)) (one_more number (length items)))
 scan_items f depth number outstanding (item.Take cid ∷ items) rest free =

@@ -8,7 +8,7 @@ use Rattle.script_cmds.specs.declared.item.Item.{Item}
 use Rattle.script_cmds.specs.declared.item.Item.TheVariants as item
 use Rattle.script_cmds.specs.declared.item.HostPart.{HostPart}
 use Rattle.script_cmds.specs.declared.item.Phase.{Phase}
-use Rattle.script_cmds.specs.Queues.{queue_of}
+use Rattle.script_cmds.specs.Queues.{queue_of_cid}
 use Rattle.history_model.specs.Plan.{PlanFault, QueueFull, CidBusy, NotOutstanding, in_queue, is_outstanding, planned_items, planned_parts, planned_hosts, planned_phases, lines_of_parts, then_plan, both_planned}
 use Rattle.history_model.specs.Plain.{hosts_by_phase}
 use Rattle.history_model.specs.Sent.{Sent, named_in, Waiting, ordinals_of, next_ordinal, sends_of_items, sends_of_parts, sends_of_phases}
@@ -88,9 +88,9 @@ items-keep depth line outstanding [] xs distinct is =
     let same : map (λ cid. item.Take cid) outstanding ≡ xs = cc in
     subst P same (takes-keep depth outstanding distinct, takes-send-none outstanding)
 items-keep depth line outstanding (item.Send cid command ∷ items) xs distinct is =
-    go (nat_le depth (in_queue (queue_of cid) outstanding)) (is_outstanding cid outstanding) refl refl is (λ rest none. items-keep depth (line + 1) (outstanding ++ cid ∷ []) items rest (distinct-more cid outstanding distinct none))
+    go (nat_le depth (in_queue (queue_of_cid cid) outstanding)) (is_outstanding cid outstanding) refl refl is (λ rest none. items-keep depth (line + 1) (outstanding ++ cid ∷ []) items rest (distinct-more cid outstanding distinct none))
   where
-    go : (full busy : Bool) → nat_le depth (in_queue (queue_of cid) outstanding) ≡ full → is_outstanding cid outstanding ≡ busy
+    go : (full busy : Bool) → nat_le depth (in_queue (queue_of_cid cid) outstanding) ≡ full → is_outstanding cid outstanding ≡ busy
         → (if full then Err (record { line = line; breach = QueueFull }) else if busy then Err (record { line = line; breach = CidBusy }) else then_plan (λ rest. item.Send cid command ∷ rest) (planned_items depth (line + 1) (outstanding ++ cid ∷ []) items)) ≡ Ok xs
         → ((rest : List Item) → is_outstanding cid outstanding ≡ false → planned_items depth (line + 1) (outstanding ++ cid ∷ []) items ≡ Ok rest
         → KeepsEachQueue depth (outstanding ++ cid ∷ []) rest × SendsSame rest items)
@@ -100,7 +100,7 @@ items-keep depth line outstanding (item.Send cid command ∷ items) xs distinct 
     go false false room free h more =
         let front = front-of (item.Send cid command) (planned_items depth (line + 1) (outstanding ++ cid ∷ []) items) xs h in
         let rest = more front.0 free front.1 in
-        let below : in_queue (queue_of cid) outstanding < depth = leb-false depth (in_queue (queue_of cid) outstanding) room in
+        let below : in_queue (queue_of_cid cid) outstanding < depth = leb-false depth (in_queue (queue_of_cid cid) outstanding) room in
         let P : List Item → Type 0 = λ ys. KeepsEachQueue depth outstanding ys × SendsSame ys (item.Send cid command ∷ items) in
         subst P front.2 (
           (below, not-contained cid outstanding free, rest.0),

@@ -7,7 +7,7 @@ use Rattle.script_cmds.specs.declared.item.Item.TheVariants as item
 use Rattle.script_cmds.specs.declared.item.HostPart.{HostPart}
 use Rattle.script_cmds.specs.declared.item.Phase.{Phase}
 use Rattle.history_model.specs.Plain.{PlainItem, PlainPart, Sends, Takes, plain_item, plain_items, plain_part, plain_parts, plain_phase, plain_phases}
-use Rattle.script_cmds.specs.Queues.{queue_of}
+use Rattle.script_cmds.specs.Queues.{queue_of_cid}
 use Rattle.history_model.specs.Plan.{Breach, PlanFault, QueueFull, CidBusy, NotOutstanding, in_queue, is_outstanding, planned_items, planned_parts, planned_hosts, planned_phases, lines_of_parts, then_plan, both_planned}
 use Rattle.history_model.specs.Rules.{without}
 use Rattle.script_plan.specs.Meant.{meant, after}
@@ -41,7 +41,7 @@ meant-then plain x (Err f) = refl
 pub items-step : (depth line : ℕ) (outstanding next : List ℕ) (x : Item) (rest : List Item) → outstanding_after depth outstanding x ≡ Ok next
     → meant plain_item (planned_items depth line outstanding (x ∷ rest)) ≡ after (plain_item x ∷ []) (meant plain_item (planned_items depth (line + 1) next rest))
 items-step depth line outstanding next (item.Send cid command) rest =
-    go (nat_le depth (in_queue (queue_of cid) outstanding)) (is_outstanding cid outstanding)
+    go (nat_le depth (in_queue (queue_of_cid cid) outstanding)) (is_outstanding cid outstanding)
   where
     go : (full busy : Bool) → (if full then Err QueueFull else if busy then Err CidBusy else Ok (outstanding ++ cid ∷ [])) ≡ Ok next
         → meant plain_item (if full then Err (record { line = line; breach = QueueFull }) else if busy then Err (record { line = line; breach = CidBusy }) else then_plan (λ more. item.Send cid command ∷ more) (planned_items depth (line + 1) (outstanding ++ cid ∷ []) rest))
@@ -71,7 +71,7 @@ told f line breach at is = rw (sym at, is) refl
 -- an item that breaks a rule is the fault
 pub items-fault : (depth line : ℕ) (outstanding : List ℕ) (x : Item) (rest : List Item) (f : PlanFault) → f.line ≡ line
     → outstanding_after depth outstanding x ≡ Err f.breach → planned_items depth line outstanding (x ∷ rest) ≡ Err f
-items-fault depth line outstanding (item.Send cid command) rest f at is = go (nat_le depth (in_queue (queue_of cid) outstanding)) (is_outstanding cid outstanding) is
+items-fault depth line outstanding (item.Send cid command) rest f at is = go (nat_le depth (in_queue (queue_of_cid cid) outstanding)) (is_outstanding cid outstanding) is
   where
     go : (full busy : Bool) → (if full then Err QueueFull else if busy then Err CidBusy else Ok (outstanding ++ cid ∷ [])) ≡ Err f.breach
         → (if full then Err (record { line = line; breach = QueueFull }) else if busy then Err (record { line = line; breach = CidBusy }) else then_plan (λ more. item.Send cid command ∷ more) (planned_items depth (line + 1) (outstanding ++ cid ∷ []) rest)) ≡ Err f

@@ -1,7 +1,7 @@
 -- To which queues a plan sends: to those of its script.
 use Rattle.std.proofs.Common.{◌≡◌, ℕ, ◌+◌, ◌<◌, ◌==◌, not, List, [], ◌∷◌, ◌++◌, filter, sym, ap, subst}
 use Rattle.std.specs.List.{AllByRecursion}
-use Rattle.script_cmds.specs.Queues.{SendToQueues, queue_of}
+use Rattle.script_cmds.specs.Queues.{SendToQueues, queue_of_cid}
 use Rattle.script_cmds.specs.declared.item.Item.{Item}
 use Rattle.script_cmds.specs.declared.item.Item.TheVariants as item
 use Rattle.script_cmds.specs.declared.item.HostPart.{HostPart}
@@ -11,7 +11,7 @@ use Rattle.history_model.specs.Sent.{Sent, Waiting, ordinals_of, sends_of_items}
 use Rattle.script_plan.proofs.Alike.{same-items}
 
 abbrev pub GoesTo : ℕ → Sent → Type 0
-GoesTo queues sent = queue_of sent.cid < queues
+GoesTo queues sent = queue_of_cid sent.cid < queues
 
 all-go : (queues host phase ordinal : ℕ) (waiting : List Waiting) (taken : List ℕ) (items : List Item) → SendToQueues queues items
     → AllByRecursion (GoesTo queues) (sends_of_items host phase ordinal waiting taken items)

@@ -1,12 +1,13 @@
 // The outstanding commands of a host, by their identifiers.
 ghost use Rattle.std.specs.Prelude.{◌≡◌, ◌<◌, ◌++◌, ◌∷◌, [], false, OnOk, OnErr, IsTrue};
-ghost use Rattle.script_cmds.specs.Queues.{queue_of};
+ghost use Rattle.script_cmds.specs.Queues.{queue_of_cid};
 ghost use Rattle.history_model.specs.Plan.{in_queue, is_outstanding};
 ghost use Rattle.history_model.specs.Rules.{without};
 
 use crate::queues::QueueCounts;
 use cp_base::NoMemory;
 use indexmap::IndexSet;
+use script_line::QUEUE_CIDS;
 use std::alloc::Global;
 use std::marker::Model;
 
@@ -19,9 +20,9 @@ pub(crate) struct Outstanding {
 
 // The queue of an identifier, counted from 0: each has 65,536 identifiers.
 fn queue_of(cid: u32) -> u32
-    ensures { result ≡ queue_of cid }
+    ensures { result ≡ queue_of_cid cid }
 {
-    cid / 65_536
+    cid / QUEUE_CIDS as u32
 }
 
 impl Model for Outstanding {
@@ -49,7 +50,7 @@ impl Outstanding {
 
     /// How many outstanding commands are those of the queue of an identifier.
     pub(crate) fn in_queue_of(&self, cid: u32) -> u32
-        ensures { result ≡ in_queue (queue_of cid) self.now }
+        ensures { result ≡ in_queue (queue_of_cid cid) self.now }
     {
         self.queues.of(queue_of(cid))
     }
@@ -64,7 +65,7 @@ impl Outstanding {
     /// One more command, under an identifier that no other has.
     pub(crate) fn add(&mut self, cid: u32) -> Result<(), NoMemory>
         requires free { is_outstanding cid self.old ≡ false }
-        requires few { in_queue (queue_of cid) self.old < 4294967295 }
+        requires few { in_queue (queue_of_cid cid) self.old < 4294967295 }
         ensures ok { OnOk result (self.new ≡ self.old ++ cid ∷ []) }
         ensures err { OnErr result (self.new ≡ self.old) }
     {

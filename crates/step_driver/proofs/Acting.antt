@@ -8,7 +8,7 @@ use Rattle.trail_model.proofs.Submits.{none-some, other-eqb, same-eqb, some-same
 use Rattle.device_core.specs.Gives.{world_in}
 use Rattle.device_core.specs.Recorded.{Recorded}
 use Rattle.schedule_model.specs.Schedule.{Action, Ending, Sending, Taking, Turning, action_of_host, actions_of_hosts, behind_first, left_after, one_done, taking_of, taking_under}
-use Rattle.step_driver.specs.Turns.{Does, FindsPlace, IsDone}
+use Rattle.step_driver.specs.Turns.{DoesAction, FindsPlace, IsActionDone}
 use Rattle.step_driver.proofs.Getting.{drop-at, each-at, each-left, each-right, some-left, some-right, some-weaker}
 
 -- the part without its first item
@@ -81,15 +81,15 @@ done-at (first ∷ parts) (suc index) part differ e =
     ∙ ap (λ (ps : List PlainPart). first ∷ ps) (done-at parts index part differ.1 e)
 
 pub acted-at : (old new : Recorded) (parts after : List PlainPart) (index : ℕ) (part : PlainPart) → EachTwo (λ (a b : PlainPart). a.host ≢ b.host) parts
-    → slice_get parts index ≡ Some part → IsSomeAnd (slice_get (action_of_host (world_in old) part.host part.items) 0) (λ a. Does old new a)
+    → slice_get parts index ≡ Some part → IsSomeAnd (slice_get (action_of_host (world_in old) part.host part.items) 0) (λ a. DoesAction old new a)
     → after ≡ slice_set parts index (acted part)
-    → IsSomeAnd (slice_get (actions_of_hosts (world_in old) parts) (length (actions_of_hosts (world_in old) (take index parts)))) (λ a. IsDone old new parts after a)
+    → IsSomeAnd (slice_get (actions_of_hosts (world_in old) parts) (length (actions_of_hosts (world_in old) (take index parts)))) (λ a. IsActionDone old new parts after a)
 acted-at old new parts after index part differ e h left =
-    some-weaker (λ (a : Action). Does old new a × (left_after a parts ≡ one_done part.host parts)) (λ (a : Action). IsDone old new parts after a)
+    some-weaker (λ (a : Action). DoesAction old new a × (left_after a parts ≡ one_done part.host parts)) (λ (a : Action). IsActionDone old new parts after a)
     (slice_get (actions_of_hosts (world_in old) parts) (length (actions_of_hosts (world_in old) (take index parts))))
     (λ a did. record { does = did.0; left = left ∙ (sym (done-at parts index part differ e) ∙ sym did.1) })
-    (action-at (λ (a : Action). Does old new a × (left_after a parts ≡ one_done part.host parts)) (world_in old) parts index part e
-    (own-left part.host (world_in old) part.items parts (λ a. Does old new a) h))
+    (action-at (λ (a : Action). DoesAction old new a × (left_after a parts ≡ one_done part.host parts)) (world_in old) parts index part e
+    (own-left part.host (world_in old) part.items parts (λ a. DoesAction old new a) h))
 
 -- what holds of each host's action holds of the action of the part at an index
 pub each-action-at : (P : Action → Type 0) (w : World) (parts : List PlainPart) (index : ℕ) (part : PlainPart) → AllByRecursion P (actions_of_hosts w parts)

@@ -10,15 +10,15 @@ use Rattle.trail_model.specs.World.{OpenClaim, Posted, Queued, Stage, Submission
 use Rattle.trail_model.specs.declared.events.Event.{Event}
 use Rattle.trail_model.specs.declared.events.Event.TheVariants as event
 use Rattle.core_model.specs.Causes.{posted_by, posted_of, take_answer}
-use Rattle.job_run.specs.Works.{IsDone, IsWork}
+use Rattle.job_run.specs.Works.{IsWork, IsWorkDone}
 use Rattle.job_run.specs.declared.work.Work.{Work}
 use Rattle.job_run.specs.declared.work.Worked.{Worked}
 use Rattle.device_core.specs.Gives.{Claims, Does as DoesAtOnce, Gives, HasWorked, IsWorkedOf, world_in}
 use Rattle.device_core.specs.Recorded.{Appends, Recorded, with_event}
 use Rattle.device_core.specs.declared.answers.Picked.TheVariants as picked
 use Rattle.schedule_model.specs.Schedule.{Action, Ending, Sending, Turning, taking_of, taking_under}
-use Rattle.step_driver.specs.Held.{Holds, IsHeldFor}
-use Rattle.step_driver.specs.Turns.{Does}
+use Rattle.step_driver.specs.Held.{HoldsWorks, IsHeldFor}
+use Rattle.step_driver.specs.Turns.{DoesAction}
 use Rattle.step_driver.specs.declared.running.Held.{Held}
 use Rattle.step_driver.proofs.Getting.{some-itself}
 use Rattle.step_driver.proofs.Holding.{claim-found, claimed, claims-stay, claims-stay-taken, finished, held-at, holds-then, was-allowed, worked-of}
@@ -31,18 +31,18 @@ there P (Some x) h = (x, refl, h)
 -- ---- a claim ends
 
 -- the open claim of a work that is held
-pub claim-of : (d : Recorded) (held : List Held) (k : ℕ) (h : Held) → Holds d held → k < length held → h ≡ get_or held k h
+pub claim-of : (d : Recorded) (held : List Held) (k : ℕ) (h : Held) → HoldsWorks d held → k < length held → h ≡ get_or held k h
     → (claim : OpenClaim) × (slice_get (world_in d).claims k ≡ Some claim) × IsHeldFor d.config claim h
 claim-of d held k h holds below is =
     there (λ (claim : OpenClaim). IsHeldFor d.config claim h) (slice_get (world_in d).claims k) (held-at d.config (world_in d).claims held k h holds.works below is)
 
-pub may-run : (d : Recorded) (held : List Held) (k : ℕ) (h : Held) → Holds d held → k < length held → h ≡ get_or held k h
+pub may-run : (d : Recorded) (held : List Held) (k : ℕ) (h : Held) → HoldsWorks d held → k < length held → h ≡ get_or held k h
     → (c : Configuration) × (s : State) × IsWork c s h.work
 may-run d held k h holds below is =
     let claim = claim-of d held k h holds below is in (d.config, claim.2.work.state, claim.2.work.work)
 
-pub may-finish : (d : Recorded) (held : List Held) (k : ℕ) (h : Held) (done : Worked) → Holds d held → k < length held → h ≡ get_or held k h
-    → ((c : Configuration) (s : State) → IsWork c s h.work → IsDone c s h.work done)
+pub may-finish : (d : Recorded) (held : List Held) (k : ℕ) (h : Held) (done : Worked) → HoldsWorks d held → k < length held → h ≡ get_or held k h
+    → ((c : Configuration) (s : State) → IsWork c s h.work → IsWorkDone c s h.work done)
     → IsSomeAnd (claim_at (world_in d).claims h.claim) (λ (claim : OpenClaim). HasWorked d h.by done claim)
 may-finish d held k h done holds below is ran =
     let claim = claim-of d held k h holds below is in
@@ -54,10 +54,10 @@ may-finish d held k h done holds below is ran =
       worked = worked-of d.config claim.0 h.work done claim.2.work (ran d.config claim.2.work.state claim.2.work.work);
     })
 
-pub finish-done : (old new : Recorded) (held : List Held) (k : ℕ) (h : Held) (done : Worked) → Holds old held → k < length held → h ≡ get_or held k h
-    → ((c : Configuration) (s : State) → IsWork c s h.work → IsDone c s h.work done)
+pub finish-done : (old new : Recorded) (held : List Held) (k : ℕ) (h : Held) (done : Worked) → HoldsWorks old held → k < length held → h ≡ get_or held k h
+    → ((c : Configuration) (s : State) → IsWork c s h.work → IsWorkDone c s h.work done)
     → Appends old new (event.Finish h.by h.claim (answer_of done.reply)) → IsLawful new.config new.commands new.trail
-    → Holds new (take k held ++ drop (suc k) held) × IsSomeAnd (slice_get (world_in old).claims k) (λ (claim : OpenClaim). Does old new (Ending claim))
+    → HoldsWorks new (take k held ++ drop (suc k) held) × IsSomeAnd (slice_get (world_in old).claims k) (λ (claim : OpenClaim). DoesAction old new (Ending claim))
 finish-done old new held k h done holds below is ran appended lawful =
     let claim = claim-of old held k h holds below is in
     let worked : IsWorkedOf old.config claim.0 done = worked-of old.config claim.0 h.work done claim.2.work (ran old.config claim.2.work.state claim.2.work.work) in
@@ -67,21 +67,21 @@ finish-done old new held k h done holds below is ran appended lawful =
     ap (λ (a : Answer). event.Finish claim.0.party claim.0.place a) worked.answer in
     let now : Appends old new (event.Finish claim.0.party claim.0.place (answer_of done.reply)) = appended ∙ ap (λ (e : Event). with_event old e) same in (
       finished old new held k claim.0 (answer_of done.reply) holds claim.1 now lawful,
-      subst (λ (o : Option OpenClaim). IsSomeAnd o (λ (x : OpenClaim). Does old new (Ending x))) (sym claim.1)
+      subst (λ (o : Option OpenClaim). IsSomeAnd o (λ (x : OpenClaim). DoesAction old new (Ending x))) (sym claim.1)
           (record { event = event.Finish claim.0.party claim.0.place (answer_of done.reply); appended = now; performs = told }),
     )
 
 -- ---- a worker turns to a command
 
-pub turn-claimed : (old new : Recorded) (held : List Held) (by skip claim : ℕ) (w : Work) → Holds old held → Gives old by skip (picked.Claimed w claim) new
+pub turn-claimed : (old new : Recorded) (held : List Held) (by skip claim : ℕ) (w : Work) → HoldsWorks old held → Gives old by skip (picked.Claimed w claim) new
     → IsLawful new.config new.commands new.trail
-    → Holds new (held ++ (let h : Held = record { by = by; claim = claim; work = w } in h) ∷ [])
-    × IsSomeAnd (slice_get (pickable_among old.config (world_in old)) skip) (λ (s : Submission). Does old new (Turning by s))
+    → HoldsWorks new (held ++ (let h : Held = record { by = by; claim = claim; work = w } in h) ∷ [])
+    × IsSomeAnd (slice_get (pickable_among old.config (world_in old)) skip) (λ (s : Submission). DoesAction old new (Turning by s))
 turn-claimed old new held by skip claim w holds gives lawful =
     let s = there (λ (s : Submission). Claims old new by s w) (slice_get (pickable_among old.config (world_in old)) skip) gives.1 in
     let h : Held = record { by = by; claim = claim; work = w } in (
       claimed old new held by skip s.0 h holds s.1 s.2 refl gives.0 lawful,
-      subst (λ (o : Option Submission). IsSomeAnd o (λ (x : Submission). Does old new (Turning by x))) (sym s.1)
+      subst (λ (o : Option Submission). IsSomeAnd o (λ (x : Submission). DoesAction old new (Turning by x))) (sym s.1)
           (record {
             event = event.Claim by s.0.request.host s.0.request.ordinal s.0.request.place;
             appended = s.2.event;
@@ -89,15 +89,15 @@ turn-claimed old new held by skip claim w holds gives lawful =
           }),
     )
 
-pub turn-did : (old new : Recorded) (held : List Held) (by skip : ℕ) → Holds old held → Gives old by skip picked.Did new → IsLawful new.config new.commands new.trail
-    → Holds new held × IsSomeAnd (slice_get (pickable_among old.config (world_in old)) skip) (λ (s : Submission). Does old new (Turning by s))
+pub turn-did : (old new : Recorded) (held : List Held) (by skip : ℕ) → HoldsWorks old held → Gives old by skip picked.Did new → IsLawful new.config new.commands new.trail
+    → HoldsWorks new held × IsSomeAnd (slice_get (pickable_among old.config (world_in old)) skip) (λ (s : Submission). DoesAction old new (Turning by s))
 turn-did old new held by skip holds gives lawful =
     let s = there (λ (s : Submission). DoesAtOnce old new by s) (slice_get (pickable_among old.config (world_in old)) skip) gives in
     let e : Event = event.Do by s.0.request.host s.0.request.ordinal s.0.request.place s.2.answer (withdrawn_place (world_in old).submits s.0.request) in (
       holds-then old new e holds.few held s.2.event lawful
           (subst (λ claims. Rattle.step_driver.specs.Held.AreHeld old.config claims held)
           (sym (claims-stay old.config (world_in old) by s.0.request.host s.0.request.ordinal s.0.request.place s.2.answer (withdrawn_place (world_in old).submits s.0.request))) holds.works),
-      subst (λ (o : Option Submission). IsSomeAnd o (λ (x : Submission). Does old new (Turning by x))) (sym s.1)
+      subst (λ (o : Option Submission). IsSomeAnd o (λ (x : Submission). DoesAction old new (Turning by x))) (sym s.1)
           (record { event = e; appended = s.2.event; performs = (inr (s.2.answer, refl), was-allowed old new e s.2.event lawful) }),
     )
 
@@ -113,20 +113,20 @@ not-rested old new by skip some gives =
 
 -- ---- a host sends, takes, and rests
 
-pub send-done : (old new : Recorded) (held : List Held) (host cid : ℕ) (cmd : Command) → Holds old held
+pub send-done : (old new : Recorded) (held : List Held) (host cid : ℕ) (cmd : Command) → HoldsWorks old held
     → Appends old new (event.Submit host cid (ordinal_after (world_in old).submits host) cmd) → IsLawful new.config new.commands new.trail
-    → Holds new held × Does old new (Sending host cid cmd)
+    → HoldsWorks new held × DoesAction old new (Sending host cid cmd)
 send-done old new held host cid cmd holds appended lawful = (
   holds-then old new (event.Submit host cid (ordinal_after (world_in old).submits host) cmd) holds.few held appended lawful holds.works,
   record { event = event.Submit host cid (ordinal_after (world_in old).submits host) cmd; appended = appended; performs = refl },
 )
 
 taken-under : (old new : Recorded) (host cid posted : ℕ) (o : Option Submission) → posted_of o ≡ Ok posted → Appends old new (event.Take host cid posted)
-    → IsSomeAnd (slice_get (taking_under host cid o) 0) (λ (action : Action). Does old new action)
+    → IsSomeAnd (slice_get (taking_under host cid o) 0) (λ (action : Action). DoesAction old new action)
 taken-under old new host cid posted None is appended = absurd (let no : Err Rattle.queue_pairs.specs.declared.causes.TakeCause.TheVariants.NotOutstanding ≡ Ok posted = is in cc)
 taken-under old new host cid posted (Some s) is appended = by_stage s.stage is
   where
-    by_stage : (stage : Stage) → posted_by stage ≡ Ok posted → IsSomeAnd (slice_get (taking_of host cid stage) 0) (λ (action : Action). Does old new action)
+    by_stage : (stage : Stage) → posted_by stage ≡ Ok posted → IsSomeAnd (slice_get (taking_of host cid stage) 0) (λ (action : Action). DoesAction old new action)
     by_stage Queued e = absurd (let no : Err Rattle.queue_pairs.specs.declared.causes.TakeCause.TheVariants.NotYet ≡ Ok posted = e in cc)
     by_stage Working e = absurd (let no : Err Rattle.queue_pairs.specs.declared.causes.TakeCause.TheVariants.NotYet ≡ Ok posted = e in cc)
     by_stage (Posted place) e =
@@ -134,9 +134,9 @@ taken-under old new host cid posted (Some s) is appended = by_stage s.stage is
         record { event = event.Take host cid posted; appended = appended; performs = ap (λ (n : ℕ). event.Take host cid n) (sym same) }
     by_stage Taken e = absurd (let no : Err Rattle.queue_pairs.specs.declared.causes.TakeCause.TheVariants.NotOutstanding ≡ Ok posted = e in cc)
 
-pub take-done : (old new : Recorded) (held : List Held) (host cid posted : ℕ) → Holds old held → take_answer (world_in old) host cid ≡ Ok posted
+pub take-done : (old new : Recorded) (held : List Held) (host cid posted : ℕ) → HoldsWorks old held → take_answer (world_in old) host cid ≡ Ok posted
     → Appends old new (event.Take host cid posted) → IsLawful new.config new.commands new.trail
-    → Holds new held × IsSomeAnd (slice_get (taking_under host cid (outstanding_under (world_in old).submits host cid)) 0) (λ (action : Action). Does old new action)
+    → HoldsWorks new held × IsSomeAnd (slice_get (taking_under host cid (outstanding_under (world_in old).submits host cid)) 0) (λ (action : Action). DoesAction old new action)
 take-done old new held host cid posted holds answer appended lawful = (
   holds-then old new (event.Take host cid posted) holds.few held appended lawful
       (subst (λ claims. Rattle.step_driver.specs.Held.AreHeld old.config claims held) (sym (claims-stay-taken old.config (world_in old) host cid posted)) holds.works),
@@ -165,14 +165,14 @@ takes-ready host cid (Some s) = by_stage s.stage
     by_stage (Posted place) = refl
     by_stage Taken = refl
 
-pub rest-done : (old new : Recorded) (held : List Held) (by : ℕ) → Holds old held → new ≡ (if (world_in old).at_rest then old else with_event old (event.Rest by))
-    → IsLawful new.config new.commands new.trail → Holds new held
+pub rest-done : (old new : Recorded) (held : List Held) (by : ℕ) → HoldsWorks old held → new ≡ (if (world_in old).at_rest then old else with_event old (event.Rest by))
+    → IsLawful new.config new.commands new.trail → HoldsWorks new held
 rest-done old new held by holds is lawful = by_rest (world_in old).at_rest refl
   where
-    by_rest : (b : Bool) → (world_in old).at_rest ≡ b → Holds new held
+    by_rest : (b : Bool) → (world_in old).at_rest ≡ b → HoldsWorks new held
     by_rest true h =
         let same : new ≡ old = is ∙ ap (λ (b : Bool). if b then old else with_event old (event.Rest by)) h in
-        subst (λ (d : Recorded). Holds d held) (sym same) holds
+        subst (λ (d : Recorded). HoldsWorks d held) (sym same) holds
     by_rest false h =
         let same : new ≡ with_event old (event.Rest by) = is ∙ ap (λ (b : Bool). if b then old else with_event old (event.Rest by)) h in
         holds-then old new (event.Rest by) holds.few held same lawful holds.works

@@ -29,7 +29,7 @@ use Rattle.schedule_model.proofs.Beginnings.{hosts-did}
 use Rattle.schedule_model.proofs.Scheduling.{scheduled, so-far}
 use Rattle.schedule_model.proofs.Telling.{tells-plan}
 use Rattle.step_driver.specs.Plans.{Follows}
-use Rattle.step_driver.specs.Turns.{FindsPlace, IsDone, IsDoneBy, MayAct, actions_of_workers, listed}
+use Rattle.step_driver.specs.Turns.{FindsPlace, IsActionDone, IsDoneBy, MayAct, actions_of_workers, listed}
 use Rattle.step_driver.proofs.Getting.{each-contained}
 
 -- what has a host that is not done is not over
@@ -71,7 +71,7 @@ follows-on plan workers first d left rest e next more follows goes = record {
   same = refl;
 }
 
-done-by : (c : Configuration) (workers : ℕ) (old new : Recorded) (parts after : List PlainPart) (later : Phases) (rest more : ℕ) (o : Option Action) → more ≡ rest → IsSomeAnd o (λ action. IsDone old new parts after action)
+done-by : (c : Configuration) (workers : ℕ) (old new : Recorded) (parts after : List PlainPart) (later : Phases) (rest more : ℕ) (o : Option Action) → more ≡ rest → IsSomeAnd o (λ action. IsActionDone old new parts after action)
     → (e : Event) × (new ≡ with_event old e) × IsSomeAnd o (λ action. Performs old.config (world_in old) action e × (((after ∷ later) ≡ left_after action parts ∷ later) × (more ≡ rest)))
 done-by c workers old new parts after later rest more None same h = absurd h
 done-by c workers old new parts after later rest more (Some action) same h =
@@ -194,7 +194,7 @@ pub record OneMore (old new : Recorded) : Type 0 where
 pub one-more : (workers number : ℕ) (old new : Recorded) (parts after : List PlainPart) → IsDoneBy number workers old new parts after → OneMore old new
 one-more workers number old new parts after done = by_item (slice_get (listed workers old parts) number) done
   where
-    by_item : (o : Option Action) → IsSomeAnd o (λ (action : Action). IsDone old new parts after action) → OneMore old new
+    by_item : (o : Option Action) → IsSomeAnd o (λ (action : Action). IsActionDone old new parts after action) → OneMore old new
     by_item None h = absurd h
     by_item (Some action) h = record {
       config = ap (λ (d : Recorded). d.config) h.does.appended;

@@ -20,14 +20,14 @@ use Rattle.trail_model.proofs.Linked.{self-found}
 use Rattle.trail_model.proofs.Moving.{linked-world}
 use Rattle.trail_model.proofs.NewSets.{each-filter}
 use Rattle.trail_model.proofs.Submits.{none-some, other-eqb, same-eqb, some-same}
-use Rattle.job_run.specs.Works.{IsDone, pieces_after, region_bytes}
+use Rattle.job_run.specs.Works.{IsWorkDone, pieces_after, region_bytes}
 use Rattle.job_run.specs.declared.work.Work.{Work}
 use Rattle.job_run.specs.declared.work.Worked.{Worked}
 use Rattle.device_core.specs.Gives.{Claims, IsWorkOf, IsWorkedOf, world_in}
 use Rattle.device_core.specs.Recorded.{Appends, Recorded, with_event}
 use Rattle.schedule_model.specs.Schedule.{Ending, Turning, idle_from}
-use Rattle.step_driver.specs.Held.{AreHeld, Holds, IsHeldFor, none_by}
-use Rattle.step_driver.specs.Turns.{Does}
+use Rattle.step_driver.specs.Held.{AreHeld, HoldsWorks, IsHeldFor, none_by}
+use Rattle.step_driver.specs.Turns.{DoesAction}
 use Rattle.step_driver.specs.declared.running.Held.{Held}
 use Rattle.step_driver.proofs.Getting.{each-at}
 
@@ -83,7 +83,7 @@ held-more c (first ∷ claims) [] claim h are is = absurd are
 held-more c (first ∷ claims) (x ∷ held) claim h are is = (are.0, held-more c claims held claim h are.1 is)
 
 -- what work leaves is what its claim comes to
-pub worked-of : (c : Configuration) (claim : OpenClaim) (w : Work) (done : Worked) (work : IsWorkOf c claim w) → IsDone c work.state w done → IsWorkedOf c claim done
+pub worked-of : (c : Configuration) (claim : OpenClaim) (w : Work) (done : Worked) (work : IsWorkOf c claim w) → IsWorkDone c work.state w done → IsWorkedOf c claim done
 worked-of c claim w done work is =
     let same : local_effect c (Rattle.trail_model.specs.Footprints.execution_of work.state w.command.value) (region_bytes w.pieces.items) w.command.value ≡ effect_of_claim c claim =
     ap (λ (x : Execution). local_effect c x (region_bytes w.pieces.items) w.command.value) work.execution
@@ -104,7 +104,7 @@ allowed-then c commands seen e lawful = (rest-from c commands (first_world c) se
 
 -- the works after an event, where they are those of the claims that the event leaves
 pub holds-then : (old new : Recorded) (e : Event) (few : old.commands ≤ MAX_COMMANDS) (held : List Held) → Appends old new e → IsLawful new.config new.commands new.trail
-    → AreHeld old.config (world_after old.config (world_in old) e).claims held → Holds new held
+    → AreHeld old.config (world_after old.config (world_in old) e).claims held → HoldsWorks new held
 holds-then old new e few held appended lawful are = record {
   few = subst (λ (d : Recorded). d.commands ≤ MAX_COMMANDS) (sym appended) few;
   lawful = lawful;
@@ -134,8 +134,8 @@ pub claim-found : (d : Recorded) (k : ℕ) (claim : OpenClaim) → IsLawful d.co
 claim-found d k claim lawful is = claims-found (world_in d).claims k claim (linked-world d.config d.commands d.trail lawful).different is
 
 -- the other works after the end of a claim
-pub finished : (old new : Recorded) (held : List Held) (k : ℕ) (claim : OpenClaim) (answer : Answer) → Holds old held → slice_get (world_in old).claims k ≡ Some claim
-    → Appends old new (event.Finish claim.party claim.place answer) → IsLawful new.config new.commands new.trail → Holds new (take k held ++ drop (suc k) held)
+pub finished : (old new : Recorded) (held : List Held) (k : ℕ) (claim : OpenClaim) (answer : Answer) → HoldsWorks old held → slice_get (world_in old).claims k ≡ Some claim
+    → Appends old new (event.Finish claim.party claim.place answer) → IsLawful new.config new.commands new.trail → HoldsWorks new (take k held ++ drop (suc k) held)
 finished old new held k claim answer holds is appended lawful =
     let w : World = world_in old in
     let found : claim_at w.claims claim.place ≡ Some claim = claim-found old k claim holds.lawful is in
@@ -156,8 +156,8 @@ picked-found d k s lawful is =
     (self-found (world_in d) (linked-world d.config d.commands d.trail lawful)))) is
 
 -- the works with that of a new claim
-pub claimed : (old new : Recorded) (held : List Held) (by k : ℕ) (s : Submission) (h : Held) → Holds old held → slice_get (pickable_among old.config (world_in old)) k ≡ Some s
-    → Claims old new by s h.work → h.by ≡ by → h.claim ≡ length old.trail → IsLawful new.config new.commands new.trail → Holds new (held ++ h ∷ [])
+pub claimed : (old new : Recorded) (held : List Held) (by k : ℕ) (s : Submission) (h : Held) → HoldsWorks old held → slice_get (pickable_among old.config (world_in old)) k ≡ Some s
+    → Claims old new by s h.work → h.by ≡ by → h.claim ≡ length old.trail → IsLawful new.config new.commands new.trail → HoldsWorks new (held ++ h ∷ [])
 claimed old new held by k s h holds is claims party place lawful =
     let w : World = world_in old in
     holds-then old new (event.Claim by s.request.host s.request.ordinal s.request.place) holds.few (held ++ h ∷ []) claims.event lawful
@@ -192,7 +192,7 @@ filter-few test (x ∷ xs) = by_test (test x) (filter-few test xs)
     by_test false later = omega arith
 
 -- there are no more commands that may be picked than may be submitted
-pub few-picked : (d : Recorded) (held : List Held) → Holds d held → length (pickable_among d.config (world_in d)) ≤ MAX_COMMANDS
+pub few-picked : (d : Recorded) (held : List Held) → HoldsWorks d held → length (pickable_among d.config (world_in d)) ≤ MAX_COMMANDS
 few-picked d held holds =
     let w : World = world_in d in
     let a : length (pickable_among d.config w) ≤ length (queued_among w.submits) =
@@ -242,7 +242,7 @@ few-from c w (e ∷ trail) =
     omega arith
 
 -- no more claims are open than there are events
-pub few-open : (d : Recorded) (held : List Held) → Holds d held → length (world_in d).claims ≤ 5 * MAX_COMMANDS + 1
+pub few-open : (d : Recorded) (held : List Held) → HoldsWorks d held → length (world_in d).claims ≤ 5 * MAX_COMMANDS + 1
 few-open d held holds =
     let a : length (world_in d).claims ≤ 0 + length d.trail = few-from d.config (first_world d.config) d.trail in
     let b : length d.trail ≤ 5 * d.commands + 1 = bounded d.config d.commands d.trail holds.lawful in
@@ -250,7 +250,7 @@ few-open d held holds =
     omega arith
 
 -- a device on which nothing has happened has no works
-pub holds-first : (d : Recorded) (held : List Held) → d.commands ≤ MAX_COMMANDS → d.trail ≡ [] → held ≡ [] → Holds d held
+pub holds-first : (d : Recorded) (held : List Held) → d.commands ≤ MAX_COMMANDS → d.trail ≡ [] → held ≡ [] → HoldsWorks d held
 holds-first d held few empty none = record {
   few = few;
   lawful = subst (λ (t : Trail). IsLawful d.config d.commands t) (sym empty) tt;

@@ -9,7 +9,7 @@ use Rattle.trail_model.proofs.Submits.{none-some, some-same}
 use Rattle.device_core.specs.Gives.{world_in}
 use Rattle.device_core.specs.Recorded.{Recorded}
 use Rattle.schedule_model.specs.Schedule.{Action, Ending, Turning, actions_of_hosts, idle_from, idle_worker, turning}
-use Rattle.step_driver.specs.Turns.{Does, IsDone, IsDoneBy, IsServed, actions_of_workers, listed}
+use Rattle.step_driver.specs.Turns.{DoesAction, IsActionDone, IsActionServed, IsDoneBy, actions_of_workers, listed}
 use Rattle.step_driver.proofs.Following.{in-two}
 use Rattle.step_driver.proofs.Getting.{some-left, some-map, some-right, some-weaker}
 
@@ -58,24 +58,24 @@ some-idle workers worker d e =
     ap (λ (o : Option ℕ). length (turning o (pickable_among d.config (world_in d)))) e ∙ length-map (pickable_among d.config (world_in d)) (λ s. Turning worker s) in
     omega arith
 
-pub served-end : (workers number : ℕ) (old new : Recorded) → IsSomeAnd (slice_get (world_in old).claims number) (λ (claim : OpenClaim). Does old new (Ending claim))
-    → IsSomeAnd (slice_get (actions_of_workers workers old) number) (λ (action : Action). IsServed old new action)
+pub served-end : (workers number : ℕ) (old new : Recorded) → IsSomeAnd (slice_get (world_in old).claims number) (λ (claim : OpenClaim). DoesAction old new (Ending claim))
+    → IsSomeAnd (slice_get (actions_of_workers workers old) number) (λ (action : Action). IsActionServed old new action)
 served-end workers number old new h =
-    some-left (λ (action : Action). IsServed old new action) (map (λ claim. Ending claim) (world_in old).claims) (turning (idle_worker (world_in old) workers) (pickable_among old.config (world_in old))) number
-    (some-map (λ (action : Action). IsServed old new action) (λ claim. Ending claim) (world_in old).claims number
-    (some-weaker (λ (claim : OpenClaim). Does old new (Ending claim)) (λ (claim : OpenClaim). IsServed old new (Ending claim)) (slice_get (world_in old).claims number)
+    some-left (λ (action : Action). IsActionServed old new action) (map (λ claim. Ending claim) (world_in old).claims) (turning (idle_worker (world_in old) workers) (pickable_among old.config (world_in old))) number
+    (some-map (λ (action : Action). IsActionServed old new action) (λ claim. Ending claim) (world_in old).claims number
+    (some-weaker (λ (claim : OpenClaim). DoesAction old new (Ending claim)) (λ (claim : OpenClaim). IsActionServed old new (Ending claim)) (slice_get (world_in old).claims number)
     (λ claim does. record { does = does; left = λ parts. refl }) h))
 
 pub served-turn : (workers number worker : ℕ) (old new : Recorded) → idle_worker (world_in old) workers ≡ Some worker → length (world_in old).claims ≤ number
-    → IsSomeAnd (slice_get (pickable_among old.config (world_in old)) (number - length (world_in old).claims)) (λ (s : Submission). Does old new (Turning worker s))
-    → IsSomeAnd (slice_get (actions_of_workers workers old) number) (λ (action : Action). IsServed old new action)
+    → IsSomeAnd (slice_get (pickable_among old.config (world_in old)) (number - length (world_in old).claims)) (λ (s : Submission). DoesAction old new (Turning worker s))
+    → IsSomeAnd (slice_get (actions_of_workers workers old) number) (λ (action : Action). IsActionServed old new action)
 served-turn workers number worker old new e behind h =
     let b : length (map (λ claim. Ending claim) (world_in old).claims) ≡ length (world_in old).claims = length-map (world_in old).claims (λ claim. Ending claim) in
-    some-right (λ (action : Action). IsServed old new action) (map (λ claim. Ending claim) (world_in old).claims) (turning (idle_worker (world_in old) workers) (pickable_among old.config (world_in old)))
+    some-right (λ (action : Action). IsActionServed old new action) (map (λ claim. Ending claim) (world_in old).claims) (turning (idle_worker (world_in old) workers) (pickable_among old.config (world_in old)))
     number (number - length (world_in old).claims) (omega arith)
-    (subst (λ (o : Option ℕ). IsSomeAnd (slice_get (turning o (pickable_among old.config (world_in old))) (number - length (world_in old).claims)) (λ (action : Action). IsServed old new action)) (sym e)
-    (some-map (λ (action : Action). IsServed old new action) (λ s. Turning worker s) (pickable_among old.config (world_in old)) (number - length (world_in old).claims)
-    (some-weaker (λ (s : Submission). Does old new (Turning worker s)) (λ (s : Submission). IsServed old new (Turning worker s))
+    (subst (λ (o : Option ℕ). IsSomeAnd (slice_get (turning o (pickable_among old.config (world_in old))) (number - length (world_in old).claims)) (λ (action : Action). IsActionServed old new action)) (sym e)
+    (some-map (λ (action : Action). IsActionServed old new action) (λ s. Turning worker s) (pickable_among old.config (world_in old)) (number - length (world_in old).claims)
+    (some-weaker (λ (s : Submission). DoesAction old new (Turning worker s)) (λ (s : Submission). IsActionServed old new (Turning worker s))
     (slice_get (pickable_among old.config (world_in old)) (number - length (world_in old).claims)) (λ s does. record { does = does; left = λ parts. refl }) h)))
 
 pub count-listed : (workers : ℕ) (d : Recorded) (parts : List PlainPart) → length (listed workers d parts) ≡ length (actions_of_hosts (world_in d) parts) + length (actions_of_workers workers d)
@@ -83,16 +83,16 @@ count-listed workers d parts = ap length (in-two workers d parts) ∙ length-app
 
 -- a host did its item
 pub done-by-host : (workers number : ℕ) (old new : Recorded) (parts after : List PlainPart)
-    → IsSomeAnd (slice_get (actions_of_hosts (world_in old) parts) number) (λ (action : Action). IsDone old new parts after action) → IsDoneBy number workers old new parts after
+    → IsSomeAnd (slice_get (actions_of_hosts (world_in old) parts) number) (λ (action : Action). IsActionDone old new parts after action) → IsDoneBy number workers old new parts after
 done-by-host workers number old new parts after h =
-    subst (λ (list : List Action). IsSomeAnd (slice_get list number) (λ (action : Action). IsDone old new parts after action)) (sym (in-two workers old parts))
-    (some-left (λ (action : Action). IsDone old new parts after action) (actions_of_hosts (world_in old) parts) (actions_of_workers workers old) number h)
+    subst (λ (list : List Action). IsSomeAnd (slice_get list number) (λ (action : Action). IsActionDone old new parts after action)) (sym (in-two workers old parts))
+    (some-left (λ (action : Action). IsActionDone old new parts after action) (actions_of_hosts (world_in old) parts) (actions_of_workers workers old) number h)
 
 -- a claim ended, or a worker turned to a command
 pub done-by-worker : (workers number count : ℕ) (old new : Recorded) (parts : List PlainPart) → count ≡ length (actions_of_hosts (world_in old) parts) → count ≤ number
-    → IsSomeAnd (slice_get (actions_of_workers workers old) (number - count)) (λ (action : Action). IsServed old new action) → IsDoneBy number workers old new parts parts
+    → IsSomeAnd (slice_get (actions_of_workers workers old) (number - count)) (λ (action : Action). IsActionServed old new action) → IsDoneBy number workers old new parts parts
 done-by-worker workers number count old new parts is behind h =
-    subst (λ (list : List Action). IsSomeAnd (slice_get list number) (λ (action : Action). IsDone old new parts parts action)) (sym (in-two workers old parts))
-    (some-right (λ (action : Action). IsDone old new parts parts action) (actions_of_hosts (world_in old) parts) (actions_of_workers workers old) number (number - count) (omega arith)
-    (some-weaker (λ (action : Action). IsServed old new action) (λ (action : Action). IsDone old new parts parts action) (slice_get (actions_of_workers workers old) (number - count))
+    subst (λ (list : List Action). IsSomeAnd (slice_get list number) (λ (action : Action). IsActionDone old new parts parts action)) (sym (in-two workers old parts))
+    (some-right (λ (action : Action). IsActionDone old new parts parts action) (actions_of_hosts (world_in old) parts) (actions_of_workers workers old) number (number - count) (omega arith)
+    (some-weaker (λ (action : Action). IsActionServed old new action) (λ (action : Action). IsActionDone old new parts parts action) (slice_get (actions_of_workers workers old) (number - count))
     (λ action served. record { does = served.does; left = sym (served.left parts) }) h))

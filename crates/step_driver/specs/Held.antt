@@ -22,7 +22,7 @@ AreHeld c (claim ∷ claims) [] = ⊥
 AreHeld c (claim ∷ claims) (h ∷ held) = IsHeldFor c claim h × AreHeld c claims held
 
 -- a device for at most the most commands, whose trail is lawful, and the works of its open claims
-pub record Holds (d : Recorded) (held : List Held) : Type 0 where
+pub record HoldsWorks (d : Recorded) (held : List Held) : Type 0 where
   pub few : d.commands ≤ MAX_COMMANDS
   pub lawful : IsLawful d.config d.commands d.trail
   pub works : AreHeld d.config (world_in d).claims held

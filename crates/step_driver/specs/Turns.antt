@@ -12,19 +12,19 @@ use Rattle.schedule_model.specs.Deeds.{IsHost}
 use Rattle.schedule_model.specs.Schedule.{Action, Ending, Performs, Sending, Taking, Turning, action_of_host, actions, actions_of_hosts, idle_worker, left_after, turning}
 
 -- one event has happened, which performs an action
-pub record Does (old new : Recorded) (action : Action) : Type 0 where
+pub record DoesAction (old new : Recorded) (action : Action) : Type 0 where
   pub event : Event
   pub appended : Appends old new event
   pub performs : Performs old.config (world_in old) action event
 
 -- an action was done, and this is left of the phase
-pub record IsDone (old new : Recorded) (before after : List PlainPart) (action : Action) : Type 0 where
-  pub does : Does old new action
+pub record IsActionDone (old new : Recorded) (before after : List PlainPart) (action : Action) : Type 0 where
+  pub does : DoesAction old new action
   pub left : after ≡ left_after action before
 
 -- an action was done, which leaves all parts of a phase as they are
-pub record IsServed (old new : Recorded) (action : Action) : Type 0 where
-  pub does : Does old new action
+pub record IsActionServed (old new : Recorded) (action : Action) : Type 0 where
+  pub does : DoesAction old new action
   pub left : (parts : List PlainPart) → left_after action parts ≡ parts
 
 -- what is no host's action: the ends of the open claims, and the turns of the least idle of so many workers
@@ -38,7 +38,7 @@ listed workers d parts = actions d.config workers (world_in d) parts
 
 -- the listed action of this number was done
 abbrev pub IsDoneBy : ℕ → ℕ → Recorded → Recorded → List PlainPart → List PlainPart → Type 0
-IsDoneBy number workers old new before after = IsSomeAnd (slice_get (listed workers old before) number) (λ (action : Action). IsDone old new before after action)
+IsDoneBy number workers old new before after = IsSomeAnd (slice_get (listed workers old before) number) (λ (action : Action). IsActionDone old new before after action)
 
 -- a send finds its place: nothing forbids it
 abbrev pub FindsPlace : Recorded → Action → Type 0

@@ -5,7 +5,7 @@ ghost use Rattle.history_model.specs.Plain.{plain_part};
 ghost use Rattle.device_core.specs.Gives.{world_in};
 ghost use Rattle.schedule_model.specs.Deeds.{IsHost};
 ghost use Rattle.schedule_model.specs.Schedule.{Action, action_of_host, behind_first, has_none};
-ghost use Rattle.step_driver.specs.Turns.{Does, FindsPlace};
+ghost use Rattle.step_driver.specs.Turns.{DoesAction, FindsPlace};
 
 use crate::running::Running;
 use device_core::Core;
@@ -64,7 +64,7 @@ impl Part {
         requires ready { 0 < length (action_of_host (world_in running.old) self.old.host self.old.items) }
         requires place { AllByRecursion (FindsPlace running.old) (action_of_host (world_in running.old) self.old.host self.old.items) }
         ensures acted { IsSomeAnd (slice_get (action_of_host (world_in running.old) self.old.host self.old.items) 0)
-            (λ (action : Action). Does running.old running.new action) }
+            (λ (action : Action). DoesAction running.old running.new action) }
         ensures left { self.new ≡ record self.old { items = behind_first self.old.items } }
     {
         match self.items.pop_front() {

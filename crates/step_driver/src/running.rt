@@ -11,7 +11,7 @@ ghost use Rattle.device_core.specs.Recorded.{with_event};
 ghost use Rattle.schedule_model.specs.Deeds.{IsHost};
 ghost use Rattle.schedule_model.specs.Schedule.{Action, Ending, Sending, Turning, idle_worker, taking_under};
 ghost use Rattle.step_driver.specs.Held.{none_by};
-ghost use Rattle.step_driver.specs.Turns.{Does};
+ghost use Rattle.step_driver.specs.Turns.{DoesAction};
 
 #[cfg(test)]
 mod tests;
@@ -43,13 +43,13 @@ pub(crate) struct Running {
 
 impl Model for Running {
     ghost use Rattle.device_core.specs.Recorded.{Recorded};
-    ghost use Rattle.step_driver.specs.Held.{Holds};
+    ghost use Rattle.step_driver.specs.Held.{HoldsWorks};
 
     ghost Value = { Recorded };
 
     ghost view = { λ r. r.core };
 
-    ghost invariant = { λ r. Holds r.core r.held.items };
+    ghost invariant = { λ r. HoldsWorks r.core r.held.items };
 }
 
 // Whether none of the works is that of a party.
@@ -115,7 +115,7 @@ impl Running {
     pub(crate) fn send(&mut self, host: u32, cid: u32, command: Arc<Command>)
         requires host { IsHost host }
         requires place { submit_cause self.old.config self.old.commands (world_in self.old) host cid ≡ None }
-        ensures { Does self.old self.new (Sending host cid (arc_value command)) }
+        ensures { DoesAction self.old self.new (Sending host cid (arc_value command)) }
     {
         let Ok(_) = self.core.submit(host, cid, command) else {
             unreachable!("the queue has a place");
@@ -127,7 +127,7 @@ impl Running {
         requires host { IsHost host }
         requires posted { 0 < length (taking_under host cid (outstanding_under (world_in self.old).submits host cid)) }
         ensures { IsSomeAnd (slice_get (taking_under host cid (outstanding_under (world_in self.old).submits host cid)) 0)
-            (λ (action : Action). Does self.old self.new action) }
+            (λ (action : Action). DoesAction self.old self.new action) }
     {
         let Ok(_) = self.core.take(host, cid) else {
             unreachable!("the reply is posted");
@@ -137,7 +137,7 @@ impl Running {
     /// Carries out the work of an open claim, which ends so.
     pub(crate) fn finish(&mut self, index: usize)
         requires { index < length (world_in self.old).claims }
-        ensures { IsSomeAnd (slice_get (world_in self.old).claims index) (λ (claim : OpenClaim). Does self.old self.new (Ending claim)) }
+        ensures { IsSomeAnd (slice_get (world_in self.old).claims index) (λ (claim : OpenClaim). DoesAction self.old self.new (Ending claim)) }
     {
         let held = self.held.remove(index);
         let worked = held.work.run();
@@ -154,7 +154,7 @@ impl Running {
         requires idle { IsTrue (is_idle (world_in self.old) by) }
         requires some { skip < length (pickable_among self.old.config (world_in self.old)) }
         ensures turned { OnOk result (IsSomeAnd (slice_get (pickable_among self.old.config (world_in self.old)) skip)
-            (λ (s : Submission). Does self.old self.new (Turning by s))) }
+            (λ (s : Submission). DoesAction self.old self.new (Turning by s))) }
         ensures unchanged { OnErr result (self.new ≡ self.old) }
     {
         self.held.reserve(1)?;

@@ -7,7 +7,7 @@ ghost use Rattle.trail_model.specs.World.{pickable_among};
 ghost use Rattle.device_core.specs.Gives.{world_in};
 ghost use Rattle.schedule_model.specs.Deeds.{IsHost};
 ghost use Rattle.schedule_model.specs.Schedule.{Action, action_of_host, actions_of_hosts, idle_worker, turning};
-ghost use Rattle.step_driver.specs.Turns.{IsDone, IsDoneBy, IsReadyAt, IsServed, MayAct, actions_of_workers, listed};
+ghost use Rattle.step_driver.specs.Turns.{IsActionDone, IsActionServed, IsDoneBy, IsReadyAt, MayAct, actions_of_workers, listed};
 
 use crate::part::Part;
 use crate::running::Running;
@@ -89,7 +89,7 @@ fn act_at(running: &mut Running, parts: &mut Vec<Part>, index: usize)
     requires may { MayAct running.old parts.old.items }
     requires ready { IsSomeAnd (slice_get parts.old.items index) (λ (part : PlainPart). 0 < length (action_of_host (world_in running.old) part.host part.items)) }
     ensures { IsSomeAnd (slice_get (actions_of_hosts (world_in running.old) parts.old.items) (length (actions_of_hosts (world_in running.old) (take index parts.old.items))))
-        (λ (action : Action). IsDone running.old running.new parts.old.items parts.new.items action) }
+        (λ (action : Action). IsActionDone running.old running.new parts.old.items parts.new.items action) }
 {
     parts[index].act(running);
 }
@@ -99,7 +99,7 @@ fn serve(running: &mut Running, workers: u32, number: u64) -> Result<(), NoMemor
     requires workers { workers ≤ MAX_HOSTS }
     requires number { number < length (actions_of_workers workers running.old) }
     ensures unchanged { OnErr result (running.new ≡ running.old) }
-    ensures served { OnOk result (IsSomeAnd (slice_get (actions_of_workers workers running.old) number) (λ (action : Action). IsServed running.old running.new action)) }
+    ensures served { OnOk result (IsSomeAnd (slice_get (actions_of_workers workers running.old) number) (λ (action : Action). IsActionServed running.old running.new action)) }
 {
     let open = running.open() as u64;
     if number < open {

@@ -10,7 +10,7 @@ use Rattle.cp_base.specs.Sharing.{IsIn, range_region}
 use Rattle.cp_base.specs.declared.lists.MemRange.{MemRange}
 use Rattle.cp_base.specs.declared.region.SpaceId.TheVariants.{Mem}
 use Rattle.bpf_isa.specs.declared.end.End.TheVariants as end
-use Rattle.bpf_model.specs.Memory.{Memory, Covers, CoversForWriting, allows_writing, bytes_from, overwritten, range_at, windows_of}
+use Rattle.bpf_model.specs.Memory.{Memory, CoversByte, CoversForWriting, allows_writing, bytes_from, overwritten, range_at, windows_of}
 use Rattle.bpf_model.specs.Outcome.{RunOutcome}
 use Rattle.bpf_model.specs.Walk.{instruction_at}
 use Rattle.bpf_model.proofs.Windows.{confined, local-ending, local-memory}
@@ -32,7 +32,7 @@ covered-in (r ∷ ranges) (suc i) k less = inr (covered-in ranges i k less)
 mem-number : (a b : ℕ) → Mem a ≡ Mem b → a ≡ b
 mem-number a b e = cc
 
-in-covered : (ranges : List MemRange) (ns k : ℕ) → IsInSome (map range_region ranges) (Mem ns) k → Covers ranges ns k
+in-covered : (ranges : List MemRange) (ns k : ℕ) → IsInSome (map range_region ranges) (Mem ns) k → CoversByte ranges ns k
 in-covered [] ns k h = absurd h
 in-covered (r ∷ ranges) ns k (inl (same, low, high)) = (0, (k - r.at, omega arith, mem-number r.ns ns same, omega arith))
 in-covered (r ∷ ranges) ns k (inr there) = let h = in-covered ranges ns k there in (suc h.0, h.1)
@@ -170,7 +170,7 @@ run-local (Loaded code) ranges a b p1 p2 budget same = record {
   memory = λ ns k inside. local-memory (instruction_at code) ranges a b p1 p2 budget covered ns k (in-covered ranges ns k inside);
 }
   where
-    covered : (ns k : ℕ) → Covers ranges ns k → a ns k ≡ b ns k
+    covered : (ns k : ℕ) → CoversByte ranges ns k → a ns k ≡ b ns k
     covered ns k (i, (d, less, here, there)) =
         same ns k (subst (λ (n : ℕ). IsInSome (map range_region ranges) (Mem n) k) here
         (subst (λ (o : ℕ). IsInSome (map range_region ranges) (Mem (range_at ranges i).ns) o) there (covered-in ranges i d less)))

@@ -38,12 +38,12 @@ reads at len = command.MemRead 1 at len
 abbrev pub two_that_meet : Trail
 two_that_meet = event.Submit 1 1 1 (fills 0 4) ∷ event.Submit 2 1 1 (reads 2 4) ∷ event.Claim 17 1 1 0 ∷ []
 
-abbrev pub done : Answer
-done = only_status status.Ok
+abbrev pub answered_ok : Answer
+answered_ok = only_status status.Ok
 
 -- the fill is over
 abbrev pub first_is_over : Trail
-first_is_over = two_that_meet ++ event.Finish 17 2 done ∷ []
+first_is_over = two_that_meet ++ event.Finish 17 2 answered_ok ∷ []
 
 -- two hosts read bytes that they share, and both are claimed; a third wants to fill one of them
 abbrev pub two_readers : Trail

@@ -16,7 +16,7 @@ use Rattle.trail_model.specs.Accounts.{Outstanding}
 use Rattle.trail_model.specs.Lawful.{Trail, world_of}
 use Rattle.trail_model.specs.World.{ordinal_after, withdrawn_place}
 use Rattle.trail_model.specs.declared.events.Event.TheVariants as event
-use Rattle.device_lock.specs.Answers.{FindsNothing, FindsRest, HasNone, IsAtRest, IsClaimed, IsCompleted, IsDone, IsPlaced, IsRefused, IsReplied}
+use Rattle.device_lock.specs.Answers.{FindsNothing, FindsRest, HasNone, IsAtRest, IsCompleted, IsFirstClaimed, IsFirstDone, IsNotSubmitted, IsReplied, IsSubmitted}
 use Rattle.device_lock.specs.Jobs.{answer_of_done, pass_of_done, pass_of_job, place_of_done}
 use Rattle.device_lock.specs.Names.{DeviceName}
 use Rattle.device_lock.specs.Passes.{DevicePass, IsBackAlone, IsBackWith, IsIdle, IsOfDevice}
@@ -28,13 +28,13 @@ use Rattle.workers.proofs.Refusals.{refused-not-yet, refused-spent}
 
 -- ---- one command
 
-pub carried-out : (d : DeviceName) (p : DevicePass) (j : Job) (x : Done) (q : DevicePass) → IsClaimed d p j → pass_of_done x ≡ pass_of_job j → IsCompleted d x q → IsFurther 0 d p q []
+pub carried-out : (d : DeviceName) (p : DevicePass) (j : Job) (x : Done) (q : DevicePass) → IsFirstClaimed d p j → pass_of_done x ≡ pass_of_job j → IsCompleted d x q → IsFurther 0 d p q []
 carried-out d p j x q claimed same completed =
     further-claimed d p (pass_of_job j) q claimed.before completed.before claimed.first.request.host claimed.first.request.ordinal claimed.first.request.place (place_of_done x)
     (answer_of_done x) claimed.turn
     (subst (λ (r : DevicePass). IsBackWith d r q completed.before (event.Finish (party_of r) (place_of_done x) (answer_of_done x))) same completed.turn) completed.idle
 
-pub done-one : (d : DeviceName) (p q : DevicePass) → IsIdle p → IsDone d p q → IsFurther 0 d p q []
+pub done-one : (d : DeviceName) (p q : DevicePass) → IsIdle p → IsFirstDone d p q → IsFurther 0 d p q []
 done-one d p q idle done =
     further-with 0 d p q done.before
     (event.Do (party_of p) done.first.request.host done.first.request.ordinal done.first.request.place done.answer (withdrawn_place (world_of d.config done.before).submits done.first.request))
@@ -52,7 +52,7 @@ goes-on d p q r first second = further-both 0 0 d p q r [] [] first second
 
 -- ---- one item
 
-pub placed-one : (d : DeviceName) (p q : DevicePass) (cid place : ℕ) (cmd : Command) → IsIdle p → IsPlaced d p cid cmd q place → IsFurther 0 d p q (Sends cid cmd ∷ [])
+pub placed-one : (d : DeviceName) (p q : DevicePass) (cid place : ℕ) (cmd : Command) → IsIdle p → IsSubmitted d p cid cmd q place → IsFurther 0 d p q (Sends cid cmd ∷ [])
 placed-one d p q cid place cmd idle placed =
     further-with 0 d p q placed.before (event.Submit (party_of p) cid (ordinal_after (world_of d.config placed.before).submits (party_of p)) cmd) (Sends cid cmd ∷ []) placed.turn
     (placed.idle idle) (sends-one (party_of p) cid (ordinal_after (world_of d.config placed.before).submits (party_of p)) cmd) no-rest
@@ -70,7 +70,7 @@ pub cids-same : (d : DeviceName) (p q : DevicePass) → IsFurther 0 d p q [] →
 cids-same d p q f = further-cids 0 d p q [] f
 
 -- a refusal, while the host has done no item since its queue had a place
-pub refused-now : (d : DeviceName) (p q r : DevicePass) (cid : ℕ) (cause : SendCause) → IsFurther 0 d p q [] → IsRefused d q cid r cause → length (cids_by p) < d.config.depth
+pub refused-now : (d : DeviceName) (p q r : DevicePass) (cid : ℕ) (cause : SendCause) → IsFurther 0 d p q [] → IsNotSubmitted d q cid r cause → length (cids_by p) < d.config.depth
     → (Contains (cids_by p) cid → ⊥) → cause ≡ send.Spent
 refused-now d p q r cid cause further refused room free =
     let same = cids-same d p q further in

@@ -16,7 +16,7 @@ use Rattle.trail_model.specs.Lawful.{Trail, world_of}
 use Rattle.trail_model.specs.World.{Posted, Queued, Stage, Submission, Taken, Working, World, is_taken_off, outstanding_of, outstanding_under, submits_of}
 use Rattle.trail_model.proofs.Accounts.{own-account}
 use Rattle.trail_model.proofs.Submits.{eqb-same, none-some, same-eqb, some-same}
-use Rattle.device_lock.specs.Answers.{HasNone, IsRefused}
+use Rattle.device_lock.specs.Answers.{HasNone, IsNotSubmitted}
 use Rattle.device_lock.specs.Names.{DeviceName}
 use Rattle.device_lock.specs.Passes.{DevicePass, IsOfDevice, world_seen}
 use Rattle.workers.specs.Further.{cids_by, outstanding_by}
@@ -69,7 +69,7 @@ only-spent c commands w host cid cause room free is = by_count (nat_le commands 
         (lt-leb c.depth (length (outstanding_of w.submits host)) room)) ∙ e)))
 
 -- where the host's queue has a place, only that all hosts submitted as many as may be can forbid a submit
-pub refused-spent : (d : DeviceName) (p q : DevicePass) (cid : ℕ) (cause : SendCause) → IsRefused d p cid q cause → length (cids_by p) < d.config.depth → (Contains (cids_by p) cid → ⊥)
+pub refused-spent : (d : DeviceName) (p q : DevicePass) (cid : ℕ) (cause : SendCause) → IsNotSubmitted d p cid q cause → length (cids_by p) < d.config.depth → (Contains (cids_by p) cid → ⊥)
     → cause ≡ send.Spent
 refused-spent d p q cid cause refused room free =
     let of_device = refused.turn.back.of_device in

@@ -7,7 +7,7 @@ use Rattle.workers.specs.declared.serving.Served.{Served}
 use Rattle.workers.specs.declared.serving.Served.TheVariants as served
 
 -- the pass comes back with no item done; and where the device is at rest, it sees that
-abbrev pub IsServed : DeviceName → DevicePass → Served → Type 0
-IsServed d p (served.Did q) = IsFurther 0 d p q []
-IsServed d p (served.Nothing q) = IsFurther 0 d p q []
-IsServed d p (served.Rested q) = IsFurther 0 d p q [] × SeesRest d q
+abbrev pub IsBackServed : DeviceName → DevicePass → Served → Type 0
+IsBackServed d p (served.Did q) = IsFurther 0 d p q []
+IsBackServed d p (served.Nothing q) = IsFurther 0 d p q []
+IsBackServed d p (served.Rested q) = IsFurther 0 d p q [] × SeesRest d q

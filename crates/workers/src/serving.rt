@@ -1,10 +1,10 @@
 // A party that carries out commands.
 ghost use Rattle.std.specs.Prelude.{[]};
-ghost use Rattle.device_lock.specs.Answers.{IsClaimed};
+ghost use Rattle.device_lock.specs.Answers.{IsFirstClaimed};
 ghost use Rattle.device_lock.specs.Jobs.{IsJobOf};
 ghost use Rattle.device_lock.specs.Passes.{DevicePass, IsIdle, IsOfDevice};
 ghost use Rattle.workers.specs.Further.{IsFurther, SeesRest};
-ghost use Rattle.workers.specs.Serving.{IsServed};
+ghost use Rattle.workers.specs.Serving.{IsBackServed};
 
 use crate::gates::Gate;
 use crate::patience::Patience;
@@ -25,7 +25,7 @@ pub(crate) enum Served {
 // Carries a claimed command out, behind the gate.
 fn carry_out<R: Wait, G: Gate>(rt: &R, device: &Device, job: Job, gate: &G) -> Pass
     requires job { IsJobOf device.now job }
-    ensures { (p : DevicePass) → IsClaimed device.now p job → IsFurther 0 device.now p result [] }
+    ensures { (p : DevicePass) → IsFirstClaimed device.now p job → IsFurther 0 device.now p result [] }
 {
     gate.opened(job.host(), job.ordinal());
     device.complete(rt, job.run())
@@ -35,7 +35,7 @@ fn carry_out<R: Wait, G: Gate>(rt: &R, device: &Device, job: Job, gate: &G) -> P
 pub(crate) fn serve_one<R: Wait, G: Gate>(rt: &R, device: &Device, pass: Pass, gate: &G) -> Served
     requires pass { IsOfDevice device.now pass }
     requires idle { IsIdle pass }
-    ensures { IsServed device.now pass result }
+    ensures { IsBackServed device.now pass result }
 {
     match device.claim(rt, pass) {
         Offer::Claimed(job) => Served::Did(carry_out(rt, device, job, gate)),

@@ -18,7 +18,7 @@ use Rattle.device_model.specs.Builtin.{builtin_at}
 use Rattle.device_model.specs.Execution.{Executable, Loaded, OfDevice}
 use Rattle.trail_model.specs.Pieces.{RegionBytes}
 use Rattle.job_run.specs.Held.{IsAlone, IsBeside, IsSource}
-use Rattle.job_run.specs.Works.{AreOfRanges, IsCodeOf, byte_counts, piece_regions, region_bytes}
+use Rattle.job_run.specs.Works.{AreOfRanges, RunsDecoded, byte_counts, piece_regions, region_bytes}
 use Rattle.job_run.specs.declared.work.Worked.{Worked}
 
 -- work leaves an answer, and pieces with these bytes
@@ -61,7 +61,7 @@ pub record IsExecutable (runs : Executable) (ranges : List MemRange) (pieces : L
   pub of_ranges : AreOfRanges pieces ranges
   pub no_window : windows ≡ []
   pub has_room : length pieces ≤ room
-  pub decoded : IsCodeOf runs code
+  pub decoded : RunsDecoded runs code
   pub of_slot : IsOfSlot runs slot
   pub zeros : stack.items ≡ replicate stack_len 0
   pub some_budget : 1 ≤ budget

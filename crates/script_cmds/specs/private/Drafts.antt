@@ -58,9 +58,9 @@ IsZeroFrom zero (size ∷ sizes) = (size ≡ 0) × IsZeroFrom zero sizes
 IsZeroFrom (suc place) (size ∷ sizes) = IsZeroFrom place sizes
 
 -- no namespace stands behind the last one
-abbrev pub HasSizes : SpaceKind → ℕ → Configuration → Type 0
-HasSizes Nvm last c = IsZeroFrom last c.nvm × IsZeroFrom 0 c.mem
-HasSizes Mem last c = IsZeroFrom last c.mem
+abbrev pub HasNoneBehind : SpaceKind → ℕ → Configuration → Type 0
+HasNoneBehind Nvm last c = IsZeroFrom last c.nvm × IsZeroFrom 0 c.mem
+HasNoneBehind Mem last c = IsZeroFrom last c.mem
 
 -- nothing stands behind the namespaces
 abbrev pub HasNothing : List declared.Phase → List HostPart → List Item → List Show → Type 0
@@ -69,8 +69,8 @@ HasNothing phases hosts items shows = (phases ≡ []) × (hosts ≡ []) × (item
 -- what there is not, by the stage
 abbrev pub IsTidy : Stage → Configuration → List declared.Phase → List HostPart → List Item → List Show → Type 0
 IsTidy AtStart c phases hosts items shows = HasNothing phases hosts items shows
-IsTidy AfterHeader c phases hosts items shows = HasNothing phases hosts items shows × HasSizes Nvm 0 c
-IsTidy (AfterNamespace kind last) c phases hosts items shows = HasNothing phases hosts items shows × HasSizes kind last c
+IsTidy AfterHeader c phases hosts items shows = HasNothing phases hosts items shows × HasNoneBehind Nvm 0 c
+IsTidy (AfterNamespace kind last) c phases hosts items shows = HasNothing phases hosts items shows × HasNoneBehind kind last c
 IsTidy InPhase c phases hosts items shows = (hosts ≡ []) × (items ≡ []) × (shows ≡ [])
 IsTidy (InPart host) c phases hosts items shows = shows ≡ []
 IsTidy AfterShow c phases hosts items shows = (hosts ≡ []) × (items ≡ [])

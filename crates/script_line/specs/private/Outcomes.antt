@@ -18,7 +18,7 @@ use Rattle.script_line.specs.declared.version.Version.TheVariants as version
 use Rattle.script_line.specs.Field as field
 use Rattle.script_line.specs.Field.{Field, Value, Data, Copied, Covered}
 use Rattle.script_line.specs.Line.{identifier_field, fields_of}
-use Rattle.script_line.specs.Reading.{both, changed, first_of_two, mem_range, read_field, read_fields, read_three}
+use Rattle.script_line.specs.Reading.{both, changed, first_of_two, mem_range, read_field, read_fields, read_three_numbers}
 use Rattle.script_line.specs.Values.{value_view}
 
 -- a row of the code's table
@@ -50,12 +50,12 @@ abbrev pub followed : {A : Type 0} → Option TextCause → List A → Result (L
 followed fault values more = both (λ xs ys. xs ++ ys) (so_far fault values) more
 
 -- what the fields say that are read, and then more of them
-abbrev pub outcome : Reading → Result (List Value) TextCause → Result (List Value) TextCause
-outcome reading more = followed reading.fault (map value_view reading.values.items) more
+abbrev pub reading_outcome : Reading → Result (List Value) TextCause → Result (List Value) TextCause
+reading_outcome reading more = followed reading.fault (map value_view reading.values.items) more
 
 -- what the fields say that are read, and then these fields of the rest
 abbrev pub outcome_with : Reading → List Field → Result (List Value) TextCause
-outcome_with reading fields = outcome reading (read_fields fields (parts_in 32 (option_map (λ text. text.now) reading.rest)))
+outcome_with reading fields = reading_outcome reading (read_fields fields (parts_in 32 (option_map (λ text. text.now) reading.rest)))
 
 -- how many fields of a line are read before its kind is known
 abbrev pub known_fields : LineKind → ℕ
@@ -90,12 +90,12 @@ IsShort parts = length parts < 3
 -- a range of three numbers, where what stands behind them says what a program may do with it
 abbrev pub range_with : Option Access → List ℕ → List ℕ → List ℕ → Result MemRange TextCause
 range_with None a b c = Err cause.Field
-range_with (Some access) a b c = changed (mem_range access) (read_three a b c)
+range_with (Some access) a b c = changed (mem_range access) (read_three_numbers a b c)
 
 -- the data that a field says; none where it says none
-abbrev pub bytes_in : Value → List ℕ
-bytes_in (Data bytes) = bytes
-bytes_in _ = []
+abbrev pub data_in : Value → List ℕ
+data_in (Data bytes) = bytes
+data_in _ = []
 
 -- the sources that a field says
 abbrev pub sources_in : Option Value → List CopySource

@@ -1,11 +1,11 @@
 use Rattle.std.proofs.Common.{◌≡◌, ◌∙◌, ℕ, ◌+◌, Bool, List, ap, arith, refl, subst}
 use Rattle.cp_base.specs.declared.limits.TheConstants.{MAX_NAMESPACE}
 use Rattle.core_bench.specs.Loads.{IsInTurn, claims_where, plain_config, sent_in_turn}
-use Rattle.core_bench.specs.Progress.{AreSent, Sent, sent_on}
+use Rattle.core_bench.specs.Progress.{AreSent, SentCommand, sent_on}
 use Rattle.core_bench.proofs.Sending.{at-end, comes-to, one-more}
 use Rattle.core_bench.proofs.loads.deep.Goals as goal
 
-next : (number : ℕ) (apart : Bool) (sent : List Sent) → AreSent (IsInTurn apart) (number + 4096 + 1) sent → AreSent (IsInTurn apart) (number + 1 + 4096) sent
+next : (number : ℕ) (apart : Bool) (sent : List SentCommand) → AreSent (IsInTurn apart) (number + 4096 + 1) sent → AreSent (IsInTurn apart) (number + 1 + 4096) sent
 next number apart sent are = subst (λ (n : ℕ). AreSent (IsInTurn apart) n sent) (let same : number + 4096 + 1 ≡ number + 1 + 4096 = omega arith in same) are
 
 pub loop-number-preserved : goal.loop-number-preserved

@@ -1,12 +1,12 @@
 use Rattle.std.proofs.lemmas.Fmt.{decimal_injective}
-use Rattle.cp_text.proofs.NumberTexts.{decimal-are_digits, length-decimal-bounds, number_of-decimal, number_of-spelled}
+use Rattle.cp_text.proofs.NumberTexts.{decimal-are_digits, length-decimal-bounds, spelled_number-decimal, spelled_number-spelled}
 use Rattle.cp_text.proofs.laws.number_laws.Goals as goal
 
 pub returns-clause-spelled_so : goal.returns-clause-spelled_so
-returns-clause-spelled_so c = number_of-spelled
+returns-clause-spelled_so c = spelled_number-spelled
 
 pub returns-clause-read_so : goal.returns-clause-read_so
-returns-clause-read_so c = number_of-decimal
+returns-clause-read_so c = spelled_number-decimal
 
 pub returns-clause-one_number : goal.returns-clause-one_number
 returns-clause-one_number c = decimal_injective

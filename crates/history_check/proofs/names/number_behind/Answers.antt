@@ -1,7 +1,7 @@
 use Rattle.std.proofs.Common.{rules, ◌≡◌, ◌∷◌, List, ℕ, sym, ◌∙◌, ap}
 use Rattle.std.specs.Prelude.{decimal}
-use Rattle.cp_text.specs.Number.{number_of}
-use Rattle.cp_text.proofs.NumberTexts.{number_of-decimal}
+use Rattle.cp_text.specs.Number.{spelled_number}
+use Rattle.cp_text.proofs.NumberTexts.{spelled_number-decimal}
 use Rattle.history_check.proofs.names.number_behind.Goals as goal
 
 pub returns-in-Some : goal.returns-in-Some
@@ -9,4 +9,4 @@ returns-in-Some c n small is =
     let cut : c.args.field.now ≡ c.in-Some.first.now ∷ c.in-Some.digits.now = search rules in
     let both : c.in-Some.first.now ∷ c.in-Some.digits.now ≡ c.args.letter ∷ decimal n = sym cut ∙ is in
     let digits : c.in-Some.digits.now ≡ decimal n = cc in
-    c.number.ensures ∙ (ap number_of digits ∙ number_of-decimal n small)
+    c.number.ensures ∙ (ap spelled_number digits ∙ spelled_number-decimal n small)

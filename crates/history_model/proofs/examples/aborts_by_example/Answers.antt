@@ -3,7 +3,7 @@ use Rattle.std.proofs.lemmas.List.Sorted.{IsPermutation-refl, IsPermutation-swap
 use Rattle.cp_base.specs.declared.replies.Status.TheVariants as status
 use Rattle.history_model.specs.Entry.{Entry}
 use Rattle.history_model.specs.Legal.{HasWithdrawn}
-use Rattle.history_model.specs.Examples.{filled, told, withdrawing}
+use Rattle.history_model.specs.Examples.{entry_told, filled, withdrawing}
 use Rattle.history_model.specs.Sent.{TakenBefore}
 use Rattle.history_model.proofs.Every.{pairwise-AllPairs}
 use Rattle.history_model.proofs.Withdrawn.{ok-done}
@@ -24,17 +24,17 @@ no_fill entry is by = let fill = by.abort in cc
 pub returns-clause-withdrawn : goal.returns-clause-withdrawn
 returns-clause-withdrawn c = λ shared. record {
   each_once = IsPermutation-swap (withdrawing ∷ filled ∷ []) (filled ∷ withdrawing ∷ []) 0 1 (omega arith) (omega arith) refl;
-  in_order = pairwise-AllPairs (λ (earlier later : Entry). TakenBefore later.sent earlier.sent → ⊥) (told withdrawing status.Ok 0 ∷ told filled status.Aborted 0 ∷ []) ((apart-1, tt), (tt, tt));
+  in_order = pairwise-AllPairs (λ (earlier later : Entry). TakenBefore later.sent earlier.sent → ⊥) (entry_told withdrawing status.Ok 0 ∷ entry_told filled status.Aborted 0 ∷ []) ((apart-1, tt), (tt, tt));
   replays = (inr (inr (inr (record { cid = 1; aborts = refl; told = refl; unchanged = refl }))), (inr (inr (inl (record { told = refl; unchanged = refl }))), tt));
-  paired = (ok-done, (record { aborted = λ is. (record { cid = 1; abort = refl; told = refl; result = refl }, (refl, refl)); follows = λ by. refl }, no_fill (told filled status.Aborted 0) refl));
+  paired = (ok-done, (record { aborted = λ is. (record { cid = 1; abort = refl; told = refl; result = refl }, (refl, refl)); follows = λ by. refl }, no_fill (entry_told filled status.Aborted 0) refl));
 }
 
 pub returns-clause-too_late : goal.returns-clause-too_late
 returns-clause-too_late c = λ shared. record {
   each_once = IsPermutation-refl (filled ∷ withdrawing ∷ []);
-  in_order = pairwise-AllPairs (λ (earlier later : Entry). TakenBefore later.sent earlier.sent → ⊥) (told filled status.Ok 0 ∷ told withdrawing status.Ok 1 ∷ []) ((apart-2, tt), (tt, tt));
+  in_order = pairwise-AllPairs (λ (earlier later : Entry). TakenBefore later.sent earlier.sent → ⊥) (entry_told filled status.Ok 0 ∷ entry_told withdrawing status.Ok 1 ∷ []) ((apart-2, tt), (tt, tt));
   replays = (inl refl, (inl refl, tt));
-  paired = (ok-done, (record { aborted = λ is. absurd (ok-done is); follows = λ by. absurd (no_fill (told filled status.Ok 0) refl by) }, λ by. let none = by.result in omega (arith, none)));
+  paired = (ok-done, (record { aborted = λ is. absurd (ok-done is); follows = λ by. absurd (no_fill (entry_told filled status.Ok 0) refl by) }, λ by. let none = by.result in omega (arith, none)));
 }
 
 pub returns-clause-wrong_order : goal.returns-clause-wrong_order

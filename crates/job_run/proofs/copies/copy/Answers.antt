@@ -7,7 +7,7 @@ use Rattle.cp_base.specs.Sharing.{source_region}
 use Rattle.cp_base.specs.declared.replies.Piece.{Piece}
 use Rattle.trail_model.specs.Pieces.{RegionBytes, carried, gathered_joined}
 use Rattle.job_run.specs.Held.{BeginsOnce, IsSource}
-use Rattle.job_run.specs.Works.{piece_regions, region_bytes, with_bytes}
+use Rattle.job_run.specs.Works.{piece_holding, piece_regions, region_bytes}
 use Rattle.job_run.proofs.Copying.{destination-found, emptied, get-set, joined-emptied, length-at, set-again, set-count, sources-emptied}
 use Rattle.job_run.proofs.Covered.{alone-once}
 use Rattle.job_run.proofs.copies.copy.Goals as goal
@@ -48,7 +48,7 @@ put_bytes-requires c =
     let ps : List Piece = c.args.pieces.now.items in
     let found = destination-found ps c.deref.result.now c.index_at-index.result d c.deref.ensures.value c.index_at-index.ensures.alone c.index_at-index.ensures.found c.requires.alone in
     let left = c.take_bytes-made.ensures.left (record { region = d; bytes = found.old }) found.at in
-    let count = set-count ps c.take_bytes-made.new.pieces.items c.index_at-index.result (with_bytes [] (record { region = d; bytes = found.old })) left in
+    let count = set-count ps c.take_bytes-made.new.pieces.items c.index_at-index.result (piece_holding [] (record { region = d; bytes = found.old })) left in
     let inside = c.index_at-index.ensures.inside in
     let same = ap (λ (xs : List Piece). length xs) c.deref.ensures.value in
     omega (arith, count, inside, same)

@@ -1,5 +1,5 @@
 use Rattle.std.proofs.Common.{◌≡◌, ◌∙◌, ℕ, Option, None, length, unwrap_or, sym, ap}
-use Rattle.parts_bench.specs.Parts.{left_by, value_of}
+use Rattle.parts_bench.specs.Parts.{marks_left, value_given}
 use Rattle.parts_bench.specs.declared.workload.Builtin.{Builtin}
 use Rattle.parts_bench.proofs.Same.{all_same}
 use Rattle.parts_bench.proofs.builtins.by_kernel.Goals as goal
@@ -10,6 +10,6 @@ returns-in-Compare c =
     record {
       given = c.unwrap_or.ensures
           ∙ (ap (λ (o : Option ℕ). unwrap_or o (length c.args.bytes.now)) none
-          ∙ (sym (all_same c.args.bytes.now) ∙ sym (ap (λ (p : Builtin). value_of p c.args.bytes.now) c.in-Compare.is)));
-      marks = sym (ap (λ (p : Builtin). left_by p c.args.bytes.now c.args.marks.now) c.in-Compare.is);
+          ∙ (sym (all_same c.args.bytes.now) ∙ sym (ap (λ (p : Builtin). value_given p c.args.bytes.now) c.in-Compare.is)));
+      marks = sym (ap (λ (p : Builtin). marks_left p c.args.bytes.now c.args.marks.now) c.in-Compare.is);
     }

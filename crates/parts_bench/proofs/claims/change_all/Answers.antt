@@ -1,7 +1,7 @@
 use Rattle.std.proofs.Common.{◌≡◌, ◌∙◌, ℕ, ◌+◌, false, length, ap, arith}
 use Rattle.cp_base.specs.declared.spans.Footprint.{Footprint}
 use Rattle.range_claims.specs.Kept.{KeptClaims, is_kept}
-use Rattle.range_claims.specs.Steps.{ranges_of}
+use Rattle.range_claims.specs.Steps.{ranges_touched}
 use Rattle.parts_bench.proofs.Changed.{changed, rounds_more}
 use Rattle.parts_bench.proofs.claims.change_all.Goals as goal
 
@@ -12,10 +12,10 @@ loop-preserved c =
     let same : c.remove-footprint.result ≡ c.args.last = back.1 ∙ c.loop.invariant.footprint in
     let writes : c.count.result ≡ length c.args.last.writes = c.count.ensures.value ∙ ap (λ (f : Footprint). length f.writes) same in
     let reads : c.count-in-loop.result ≡ length c.args.last.reads = c.count-in-loop.ensures.value ∙ ap (λ (f : Footprint). length f.reads) same in
-    let each : c.count.result + c.count-in-loop.result ≡ ranges_of c.args.last = omega (arith, writes, reads) in
+    let each : c.count.result + c.count-in-loop.result ≡ ranges_touched c.args.last = omega (arith, writes, reads) in
     record {
       claims = back.0 ∙ c.loop.invariant.claims;
       footprint = same;
-      ranges = ap (λ (n : ℕ). c.loop.ranges + n) each ∙ rounds_more c.loop.counter (ranges_of c.args.last) c.loop.ranges c.loop.invariant.ranges;
+      ranges = ap (λ (n : ℕ). c.loop.ranges + n) each ∙ rounds_more c.loop.counter (ranges_touched c.args.last) c.loop.ranges c.loop.invariant.ranges;
       few = omega (arith, c.count.ensures.few, c.count-in-loop.ensures.few, c.loop.invariant.few);
     }

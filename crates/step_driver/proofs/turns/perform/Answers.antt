@@ -4,7 +4,7 @@ use Rattle.history_model.specs.Plain.{PlainPart}
 use Rattle.device_core.specs.Gives.{world_in}
 use Rattle.device_core.specs.Recorded.{Recorded}
 use Rattle.schedule_model.specs.Schedule.{Action, actions_of_hosts}
-use Rattle.step_driver.specs.Turns.{IsDone, IsReadyAt}
+use Rattle.step_driver.specs.Turns.{IsActionDone, IsReadyAt}
 use Rattle.step_driver.proofs.Serving.{count-listed, done-by-host, done-by-worker}
 use Rattle.step_driver.proofs.turns.perform.Goals as goal
 
@@ -27,7 +27,7 @@ returns-in-Ok-clause-done c =
     subst (λ (ps : List PlainPart). IsReadyAt (world_in d) ps c.args.number c.in-Ok.index) c.deref.ensures.value
     (subst (λ (r : Recorded). IsReadyAt (world_in r) c.deref.result.now c.args.number c.in-Ok.index) c.core.ensures c.in-Ok.ensures.found) in
     done-by-host c.args.workers c.args.number d new parts after
-    (subst (λ (n : ℕ). IsSomeAnd (slice_get (actions_of_hosts (world_in d) parts) n) (λ (action : Action). IsDone d new parts after action)) found.before c.act_at.ensures)
+    (subst (λ (n : ℕ). IsSomeAnd (slice_get (actions_of_hosts (world_in d) parts) n) (λ (action : Action). IsActionDone d new parts after action)) found.before c.act_at.ensures)
 
 pub serve-requires-clause-number : goal.serve-requires-clause-number
 serve-requires-clause-number c =

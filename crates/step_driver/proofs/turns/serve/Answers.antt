@@ -2,7 +2,7 @@ use Rattle.std.proofs.Common.{ℕ, ◌+◌, ◌-◌, ◌≤◌, IsSomeAnd, arith
 use Rattle.std.proofs.lemmas.Result.{on_ok_weaker}
 use Rattle.trail_model.specs.World.{Submission, pickable_among}
 use Rattle.schedule_model.specs.Schedule.{Turning}
-use Rattle.step_driver.specs.Turns.{Does}
+use Rattle.step_driver.specs.Turns.{DoesAction}
 use Rattle.device_core.specs.Gives.{world_in}
 use Rattle.cp_base.specs.declared.limits.TheConstants.{MAX_HOSTS}
 use Rattle.step_driver.proofs.Serving.{idle-found, is-party, served-turn}
@@ -17,7 +17,7 @@ turn-requires-clause-idle c = (idle-found (world_in c.args.running.now) (MAX_HOS
 pub returns-clause-served : goal.returns-clause-served
 returns-clause-served c =
     let d = c.args.running.now in
-    let at : ℕ → Type 0 = λ n. IsSomeAnd (slice_get (pickable_among d.config (world_in d)) n) (λ (s : Submission). Does d c.turn.new.self (Turning c.in-Some.worker s)) in
+    let at : ℕ → Type 0 = λ n. IsSomeAnd (slice_get (pickable_among d.config (world_in d)) n) (λ (s : Submission). DoesAction d c.turn.new.self (Turning c.in-Some.worker s)) in
     let behind : length (world_in d).claims ≤ c.args.number = omega (arith, c.open-open.ensures.open) in
     on_ok_weaker c.turn.result
     (λ did. served-turn c.args.workers c.args.number c.in-Some.worker d c.turn.new.self (sym c.in-Some.ensures) behind

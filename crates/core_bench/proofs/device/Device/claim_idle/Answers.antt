@@ -1,6 +1,6 @@
 use Rattle.std.proofs.Common.{◌≡◌, ◌+◌, List, [], ◌∷◌, ◌++◌, subst, sym}
 use Rattle.device_core.specs.Recorded.{Recorded}
-use Rattle.step_driver.specs.Held.{Holds}
+use Rattle.step_driver.specs.Held.{HoldsWorks}
 use Rattle.step_driver.specs.declared.running.Held.{Held}
 use Rattle.core_bench.specs.Progress.{IsLater, open_on, over_on, sent_on}
 use Rattle.core_bench.proofs.Calls.{claim-opens, did-leaves}
@@ -10,8 +10,8 @@ pub invariant_of-self-in-Claimed : goal.invariant_of-self-in-Claimed
 invariant_of-self-in-Claimed c =
     let k = c.self.inside in
     let opens = claim-opens k.core c.claim.new.self k.held.items c.args.by 0 c.in-Claimed.claim c.in-Claimed.work c.self.invariant c.in-Claimed.ensures.gives c.in-Claimed.ensures.lawful in
-    subst (λ (hs : List Held). Holds c.claim.new.self hs) (sym c.push_reserved.ensures.items)
-    (subst (λ (hs : List Held). Holds c.claim.new.self (hs ++ (let h : Held = record { by = c.args.by; claim = c.in-Claimed.claim; work = c.in-Claimed.work } in h) ∷ []))
+    subst (λ (hs : List Held). HoldsWorks c.claim.new.self hs) (sym c.push_reserved.ensures.items)
+    (subst (λ (hs : List Held). HoldsWorks c.claim.new.self (hs ++ (let h : Held = record { by = c.args.by; claim = c.in-Claimed.claim; work = c.in-Claimed.work } in h) ∷ []))
     (sym c.reserve.ensures.items) opens.holds)
 
 pub returns-in-Claimed-clause-later : goal.returns-in-Claimed-clause-later
@@ -42,7 +42,7 @@ pub invariant_of-self-in-Did : goal.invariant_of-self-in-Did
 invariant_of-self-in-Did c =
     let k = c.self.inside in
     let leaves = did-leaves k.core c.claim.new.self k.held.items c.args.by 0 c.self.invariant c.in-Did.ensures.gives c.in-Did.ensures.lawful in
-    subst (λ (hs : List Held). Holds c.claim.new.self hs) (sym c.reserve.ensures.items) leaves.holds
+    subst (λ (hs : List Held). HoldsWorks c.claim.new.self hs) (sym c.reserve.ensures.items) leaves.holds
 
 pub returns-in-Did-clause-later : goal.returns-in-Did-clause-later
 returns-in-Did-clause-later c =

@@ -1,6 +1,6 @@
 use Rattle.std.proofs.Common.{◌≡◌, ◌+◌, ◌<◌, List, length, arith, subst, sym}
 use Rattle.device_core.specs.Recorded.{Recorded}
-use Rattle.step_driver.specs.Held.{Holds}
+use Rattle.step_driver.specs.Held.{HoldsWorks}
 use Rattle.step_driver.specs.declared.running.Held.{Held}
 use Rattle.step_driver.proofs.Doing.{may-finish, may-run}
 use Rattle.core_bench.specs.Progress.{IsLater, open_on, over_on, sent_on}
@@ -23,7 +23,7 @@ pub invariant_of-self : goal.invariant_of-self
 invariant_of-self c =
     let k = c.self.inside in
     let some : 0 < length k.held.items = grind (arith, c.is_empty.ensures, c.if-is_empty.false) in
-    subst (λ (hs : List Held). Holds c.finish.new.self hs) (sym c.remove-held.ensures.items)
+    subst (λ (hs : List Held). HoldsWorks c.finish.new.self hs) (sym c.remove-held.ensures.items)
     (finish-ends k.core c.finish.new.self k.held.items c.remove-held.result c.run-worked.result c.self.invariant some c.remove-held.ensures.value c.run-worked.ensures c.finish.ensures.finished c.finish.ensures.lawful).holds
 
 pub returns-clause-later : goal.returns-clause-later

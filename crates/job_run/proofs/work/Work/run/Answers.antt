@@ -11,7 +11,7 @@ use Rattle.cp_base.specs.declared.replies.Status.TheVariants as status
 use Rattle.device_model.specs.Execution.{executable_in, outcome_on, told_of}
 use Rattle.trail_model.specs.LocalEffects.{ranges_with}
 use Rattle.trail_model.specs.Pieces.{carried, gathered_joined}
-use Rattle.job_run.specs.Works.{memory_in, pieces_with, region_bytes, with_bytes}
+use Rattle.job_run.specs.Works.{memory_in, piece_holding, pieces_with, region_bytes}
 use Rattle.job_run.specs.declared.work.Worked.{Worked}
 use Rattle.job_run.specs.private.Kinds.{IsCopyable, IsExecutable, IsWritable, Leaves, source_regions}
 use Rattle.job_run.proofs.Working.{copy-mem, copy-nvm, fill-mem, read-mem, read-nvm, run-set, write-mem, write-nvm, zero-nvm}
@@ -51,7 +51,7 @@ pub returns-in-NvmWrite : goal.returns-in-NvmWrite
 returns-in-NvmWrite c conf state work =
     let shown : c.as_slice.result.now ≡ c.in-NvmWrite.bytes.items = search rules in
     (write-nvm conf state c.args.self work _ _ _ (sym c.deref.ensures ∙ c.in-NvmWrite.is)).done c.written.result
-    (subst (λ (bytes : List ℕ). Leaves c.written.result (only_status status.Ok) (map (with_bytes bytes) (region_bytes c.args.self.pieces.items))) shown c.written.ensures)
+    (subst (λ (bytes : List ℕ). Leaves c.written.result (only_status status.Ok) (map (piece_holding bytes) (region_bytes c.args.self.pieces.items))) shown c.written.ensures)
 
 pub filled-requires : goal.filled-requires
 filled-requires c = (_, (zero-nvm c.requires.0 c.requires.1 c.args.self c.requires.2 _ _ _ (sym c.deref.ensures ∙ c.in-NvmZeroes.is)).finds)
@@ -97,7 +97,7 @@ pub returns-in-MemWrite : goal.returns-in-MemWrite
 returns-in-MemWrite c conf state work =
     let shown : c.as_slice-in-MemWrite.result.now ≡ c.in-MemWrite.bytes.items = search rules in
     (write-mem conf state c.args.self work _ _ _ (sym c.deref.ensures ∙ c.in-MemWrite.is)).done c.written-in-MemWrite.result
-    (subst (λ (bytes : List ℕ). Leaves c.written-in-MemWrite.result (only_status status.Ok) (map (with_bytes bytes) (region_bytes c.args.self.pieces.items))) shown c.written-in-MemWrite.ensures)
+    (subst (λ (bytes : List ℕ). Leaves c.written-in-MemWrite.result (only_status status.Ok) (map (piece_holding bytes) (region_bytes c.args.self.pieces.items))) shown c.written-in-MemWrite.ensures)
 
 pub filled-requires-in-MemFill : goal.filled-requires-in-MemFill
 filled-requires-in-MemFill c = (_, (fill-mem c.requires.0 c.requires.1 c.args.self c.requires.2 _ _ _ _ (sym c.deref.ensures ∙ c.in-MemFill.is)).finds)

@@ -5,14 +5,14 @@ use Rattle.std.specs.BTreeMap.{insert_entry}
 use Rattle.std.specs.Ordering.{nat_cmp}
 use Rattle.cp_base.specs.Buffer.{Buffer}
 use Rattle.cp_base.specs.Pieces.{patched, piece}
-use Rattle.program_slots.specs.Spread.{AreDisjoint, loaded_in, spread}
+use Rattle.program_slots.specs.Spread.{AreSpread, loaded_in, spread}
 use Rattle.program_slots.proofs.Spreading.{covered, disjoint_inserted, few_loaded, length-spread, loaded_inserted, part_covered, spread_inserted}
 use Rattle.program_slots.proofs.pieces.Pieces.put.Goals as goal
 
 -- what is known where a piece is put: the pieces before, the place, the bytes and their copy
 record Puts (size at : ℕ) (now : List (Option ℕ)) (es : List (ℕ × Buffer)) (bytes : List ℕ) (kept : Buffer) : Type 0 where
   view : spread 0 size es ≡ now
-  apart : AreDisjoint 0 size es
+  apart : AreSpread 0 size es
   some : 0 < length bytes
   inside : at + length bytes ≤ length now
   missing : list_any (λ (byte : Option ℕ). is_some byte) (piece now at (length bytes)) ≡ false
@@ -35,7 +35,7 @@ copied_some : (size at : ℕ) (now : List (Option ℕ)) (es : List (ℕ × Buffe
 copied_some size at now es bytes kept p = subst (λ (b : List ℕ). 0 < length b) (sym p.copy) p.some
 
 apart_after : (size at : ℕ) (now : List (Option ℕ)) (es : List (ℕ × Buffer)) (bytes : List ℕ) (kept : Buffer) → Puts size at now es bytes kept
-    → AreDisjoint 0 size (insert_entry nat_cmp es at kept)
+    → AreSpread 0 size (insert_entry nat_cmp es at kept)
 apart_after size at now es bytes kept p =
     disjoint_inserted 0 size at kept es p.apart (omega arith) (within size at now es bytes kept p) (copied_some size at now es bytes kept p) (free size at now es bytes kept p)
 
@@ -73,7 +73,7 @@ invariant_of-self-2 c =
     let loaded = loaded_after _ _ _ _ _ _ p in
     let count : c.self.inside.loaded + c.len.result ≡ length c.args.bytes.now.items + loaded_in c.self.inside.pieces.entries = omega (arith, c.self.invariant.2, c.len.ensures) in (
       c.self.invariant.0,
-      subst (AreDisjoint 0 c.self.inside.size) (sym c.in_ok-insert.ensures.entries) (apart_after _ _ _ _ _ _ p),
+      subst (AreSpread 0 c.self.inside.size) (sym c.in_ok-insert.ensures.entries) (apart_after _ _ _ _ _ _ p),
       count ∙ sym loaded ∙ ap loaded_in (sym c.in_ok-insert.ensures.entries),
     )
 

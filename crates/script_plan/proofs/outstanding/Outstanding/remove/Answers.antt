@@ -1,6 +1,6 @@
 use Rattle.std.proofs.Common.{◌≡◌, ℕ, ◌-◌, true, List, get_or, sym, ap, ◌∙◌, subst}
 use Rattle.std.proofs.Math.ListN.{set}
-use Rattle.script_cmds.specs.Queues.{queue_of}
+use Rattle.script_cmds.specs.Queues.{queue_of_cid}
 use Rattle.history_model.specs.Plan.{is_outstanding}
 use Rattle.history_model.specs.Rules.{without}
 use Rattle.script_plan.specs.Counted.{AreCounts}
@@ -27,11 +27,11 @@ invariant_of-self c =
     let cid : ℕ = c.args.cid in
     let there : is_outstanding cid keys ≡ true = sym (any-swap cid keys) ∙ sym c.shift_remove-found.ensures.found ∙ c.if-found.true in
     let kept : c.shift_remove-found.new.self.keys ≡ without cid keys = c.shift_remove-found.ensures.keys ∙ remove_key-without cid keys c.self.invariant.0 in
-    let counted : c.take_one.new.self ≡ set counts (queue_of cid) (get_or counts (queue_of cid) 0 - 1) = rw c.queue_of.ensures at c.take_one.ensures in
+    let counted : c.take_one.new.self ≡ set counts (queue_of_cid cid) (get_or counts (queue_of_cid cid) 0 - 1) = rw c.queue_of.ensures at c.take_one.ensures in
     let less = counts_less counts keys cid c.self.invariant.0 there c.self.invariant.1 in (
       c.shift_remove-found.ensures.unique,
       subst (λ (numbers : List ℕ). AreCounts numbers c.shift_remove-found.new.self.keys) (sym counted)
-          (subst (λ (cids : List ℕ). AreCounts (set counts (queue_of cid) (get_or counts (queue_of cid) 0 - 1)) cids) (sym kept) less),
+          (subst (λ (cids : List ℕ). AreCounts (set counts (queue_of_cid cid) (get_or counts (queue_of_cid cid) 0 - 1)) cids) (sym kept) less),
     )
 
 pub returns-then-found-clause-after : goal.returns-then-found-clause-after
