@@ -162,26 +162,17 @@ pub enum Nature {
     /// It writes bytes of namespaces over those of a namespace.
     Copies,
     /// It executes the program of a slot on the ranges of a set, and holds both as long as it does.
-    Executes {
-        slot: u32,
-        set: u32,
-    },
-    /// It changes the program of a slot that nobody executes, and takes memory.
+    Executes { slot: u32, set: u32 },
+    /// It changes what a slot holds that is not active, and takes memory.
     Builds,
-    /// It makes a set or empties a slot that nobody executes.
+    /// It makes a set, or empties a slot that is not active.
     Arranges,
-    /// It takes a set away.
-    Deletes {
-        set: u32,
-    },
-    /// It ends the executions of the program of a slot.
-    Stops {
-        slot: u32,
-    },
-    /// It withdraws the command of its host under an identifier.
-    Withdraws {
-        cid: u32,
-    },
+    /// It takes a set away, which no execution may hold then.
+    Deletes { set: u32 },
+    /// It makes the program of a slot inactive, which no execution may hold then.
+    Stops { slot: u32 },
+    /// It withdraws the command of its host that waits under an identifier.
+    Withdraws { cid: u32 },
 }
 
 impl Nature {
