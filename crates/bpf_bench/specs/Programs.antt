@@ -11,7 +11,9 @@ use Rattle.bpf_bench.specs.declared.workload.Workload.TheVariants.{Loop, Sum, St
 
 -- R0 counts the rounds
 abbrev pub counting : List Insn
-counting = insn.MovImm true 0 (pos 0) ∷ insn.AluImm alu.Add true 0 (pos 1) ∷ insn.BranchReg jump.Jlt true 0 1 (negsuc 1) ∷ insn.Exit ∷ []
+counting =
+    insn.MovImm true 0 (pos 0) ∷ insn.AluImm alu.Add true 0 (pos 1) ∷ insn.BranchReg jump.Jlt true 0 1 (negsuc 1)
+    ∷ insn.Exit ∷ []
 
 -- R4 is the first address of the range, R5 the one behind it, R3 that of the next byte, and R0 the sum
 abbrev pub summing : List Insn
@@ -27,7 +29,8 @@ abbrev pub storing : List Insn
 storing =
     insn.MovImm true 0 (pos 0) ∷ insn.LoadImm 4 (2 ^ 32) ∷ insn.MovReg true 5 4 ∷ insn.AluReg alu.Add true 5 2
     ∷ insn.MovReg true 3 4
-    ∷ insn.StoreReg size.D 3 0 (pos 0) ∷ insn.AluImm alu.Add true 3 (pos 8) ∷ insn.BranchReg jump.Jlt true 3 5 (negsuc 2)
+    ∷ insn.StoreReg size.D 3 0 (pos 0) ∷ insn.AluImm alu.Add true 3 (pos 8)
+    ∷ insn.BranchReg jump.Jlt true 3 5 (negsuc 2)
     ∷ insn.AluImm alu.Add true 0 (pos 1) ∷ insn.BranchReg jump.Jlt true 0 1 (negsuc 5) ∷ insn.Exit ∷ []
 
 -- the rounds are counted by jumps from end to end of so many units of code

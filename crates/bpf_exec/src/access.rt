@@ -30,7 +30,8 @@ impl Processor {
     #[inline(always)]
     #[tactic(auto, using(crate::proofs::Windows::load_done, crate::proofs::Windows::load_failed))]
     pub fn load(&mut self, view: &View, size: Size, dst: Reg, address: u64) -> Next
-        ensures effect { load_number (machine_of self.old view.now) address size dst (λ n. n) ≡ effect_seen result self.new view.now }
+        ensures effect { load_number (machine_of self.old view.now) address size dst (λ n. n)
+            ≡ effect_seen result self.new view.now }
         ensures place { self.new.place ≡ self.old.place }
     {
         let Some(number) = view.load(address, size) else {
@@ -58,7 +59,8 @@ impl Processor {
     #[inline(always)]
     #[tactic(auto, using(crate::proofs::Windows::store_done, crate::proofs::Windows::store_failed))]
     pub fn store(&self, view: &mut View, size: Size, address: u64, value: u64) -> Next
-        ensures effect { store_number (machine_of self.now view.old) address size value ≡ effect_seen result self.now view.new }
+        ensures effect { store_number (machine_of self.now view.old) address size value
+            ≡ effect_seen result self.now view.new }
         ensures at_end { LeavesAtEnd result view.old view.new }
         ensures windows { KeepsWindows view.old view.new }
     {
@@ -120,7 +122,8 @@ impl Processor {
         src: Reg,
     ) -> Next
         requires { IsTrue (is_atomic_size size) }
-        ensures effect { atomic_access (machine_of self.old view.old) op address size (slice_index self.old.registers src) (λ old m. with_register m src old)
+        ensures effect { atomic_access (machine_of self.old view.old) op address size
+            (slice_index self.old.registers src) (λ old m. with_register m src old)
             ≡ effect_seen result self.new view.new }
         ensures place { self.new.place ≡ self.old.place }
         ensures at_end { LeavesAtEnd result view.old view.new }
@@ -137,7 +140,8 @@ impl Processor {
     #[inline(always)]
     pub fn exchange(&mut self, view: &mut View, size: Size, address: u64, src: Reg) -> Next
         requires { IsTrue (is_atomic_size size) }
-        ensures effect { atomic_access (machine_of self.old view.old) AtomicOp.Cmpxchg address size (slice_index self.old.registers src) (λ old m. with_register m 0 old)
+        ensures effect { atomic_access (machine_of self.old view.old) AtomicOp.Cmpxchg address size
+            (slice_index self.old.registers src) (λ old m. with_register m 0 old)
             ≡ effect_seen result self.new view.new }
         ensures place { self.new.place ≡ self.old.place }
         ensures at_end { LeavesAtEnd result view.old view.new }

@@ -26,7 +26,8 @@ impl Processor {
     /// An arithmetic operation on the destination and an operand.
     #[inline(always)]
     pub fn compute(&mut self, op: AluOp, wide: bool, dst: Reg, operand: u64) -> Next
-        ensures effect { (t : Touched) → arithmetic (machine_of self.old t) op wide dst operand ≡ effect_seen result self.new t }
+        ensures effect { (t : Touched)
+            → arithmetic (machine_of self.old t) op wide dst operand ≡ effect_seen result self.new t }
         ensures place { self.new.place ≡ self.old.place }
     {
         let value = computed(op, wide, self.get(dst), operand);
@@ -49,7 +50,8 @@ impl Processor {
     /// A load of a number of 64 bits, the only instruction of two units.
     #[inline(always)]
     pub fn put(&mut self, dst: Reg, value: u64) -> Next
-        ensures effect { (t : Touched) → effect (Insn.LoadImm dst value) (machine_of self.old t) ≡ effect_seen result self.new t }
+        ensures effect { (t : Touched)
+            → effect (Insn.LoadImm dst value) (machine_of self.old t) ≡ effect_seen result self.new t }
         ensures place { self.new.place ≡ self.old.place }
     {
         self.set(dst, value);

@@ -25,7 +25,8 @@ impl Processor {
     /// A jump where a comparison of the destination and an operand holds.
     #[inline(always)]
     pub fn branch(&self, op: JumpOp, wide: bool, dst: Reg, operand: u64, offset: i16) -> Next
-        ensures { (t : Touched) → branch (machine_of self.now t) op wide dst operand offset ≡ effect_seen result self.now t }
+        ensures { (t : Touched)
+            → branch (machine_of self.now t) op wide dst operand offset ≡ effect_seen result self.now t }
     {
         if holds(op, wide, self.get(dst), operand) {
             Next::By(i32::from(offset))

@@ -45,7 +45,8 @@ fn advance<'c>(
 ) -> Result<&'c Insn, End>
     requires current { insn_at code.now (pos processor.old.place) ≡ Some insn.now }
     requires allowed { IsAllowed insn.now }
-    ensures step { step (decoded_program code.now) (machine_of processor.old view.old) ≡ step_seen result processor.new view.new }
+    ensures step { step (decoded_program code.now) (machine_of processor.old view.old)
+        ≡ step_seen result processor.new view.new }
     ensures next { IfOk result (λ next. insn_at code.now (pos processor.new.place) ≡ Some next.now) }
     ensures next_allowed { IfOk result (λ next. IsAllowed next.now) }
     ensures windows { KeepsWindows view.old view.new }
@@ -69,7 +70,8 @@ fn run_from(
 ) -> End
     requires current { insn_at code.now (pos processor.old.place) ≡ Some first.now }
     requires allowed { IsAllowed first.now }
-    ensures outcome { outcome_from (decoded_program code.now) budget (machine_of processor.old view.old) ≡ record { ending = result; memory = window_memory view.new.windows } }
+    ensures outcome { outcome_from (decoded_program code.now) budget (machine_of processor.old view.old)
+        ≡ record { ending = result; memory = window_memory view.new.windows } }
     ensures windows { KeepsWindows view.old view.new }
 {
     let mut insn = first;
@@ -100,9 +102,11 @@ fn run_from(
 pub fn run(code: &Decoded, view: &mut View, p1: u64, p2: u64, budget: u64) -> End
     requires budget { 1 ≤ budget }
     requires stack { view.old.stack ≡ replicate stack_len 0 }
-    ensures ending { (program : Program) (ranges : List MemRange) (memory : Memory) → Describes program ranges memory code.now view.old →
+    ensures ending { (program : Program) (ranges : List MemRange) (memory : Memory)
+        → Describes program ranges memory code.now view.old →
         result ≡ (outcome program ranges memory p1 p2 budget).ending }
-    ensures windows { (program : Program) (ranges : List MemRange) (memory : Memory) → Describes program ranges memory code.now view.old →
+    ensures windows { (program : Program) (ranges : List MemRange) (memory : Memory)
+        → Describes program ranges memory code.now view.old →
         view.new.windows ≡ windows_of (outcome program ranges memory p1 p2 budget).memory ranges }
 {
     let Some(first) = code.at(0) else {

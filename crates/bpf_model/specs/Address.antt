@@ -35,7 +35,8 @@ resolve lengths address size = resolve_from 0 lengths address size
 
 -- a location as one for writing: none in a range that is not read-write
 abbrev pub for_writing : List Bool → Location → Location
-for_writing read_write (InRange index offset) = if slice_index_or read_write index false then InRange index offset else Nowhere
+for_writing read_write (InRange index offset) =
+    if slice_index_or read_write index false then InRange index offset else Nowhere
 for_writing read_write (InStack offset) = InStack offset
 for_writing read_write Nowhere = Nowhere
 

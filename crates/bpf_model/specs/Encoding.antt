@@ -114,7 +114,8 @@ encoding (insn.ToBig bits dst) = unit 0xdc dst 0 0 (bits_of bits)
 encoding (insn.Swap bits dst) = unit 0xd7 dst 0 0 (bits_of bits)
 encoding (insn.Jump offset) = unit 0x05 0 0 (offset_bits offset) 0
 encoding (insn.JumpLong imm) = unit 0x06 0 0 0 (imm_bits imm)
-encoding (insn.BranchImm op wide dst offset imm) = unit (jump_opcode op 0 wide) dst 0 (offset_bits offset) (imm_bits imm)
+encoding (insn.BranchImm op wide dst offset imm) =
+    unit (jump_opcode op 0 wide) dst 0 (offset_bits offset) (imm_bits imm)
 encoding (insn.BranchReg op wide dst src offset) = unit (jump_opcode op 1 wide) dst src (offset_bits offset) 0
 encoding insn.CallHelper = unit 0x85 0 0 0 1
 encoding (insn.CallLocal imm) = unit 0x85 0 1 0 (imm_bits imm)
@@ -125,7 +126,8 @@ encoding (insn.LoadSigned s dst src offset) = unit (access_opcode 4 s 1) dst src
 encoding (insn.StoreImm s dst offset imm) = unit (access_opcode 3 s 2) dst 0 (offset_bits offset) (imm_bits imm)
 encoding (insn.StoreReg s dst src offset) = unit (access_opcode 3 s 3) dst src (offset_bits offset) 0
 encoding (insn.Atomic op s dst src offset) = unit (access_opcode 6 s 3) dst src (offset_bits offset) (atomic_code op)
-encoding (insn.AtomicFetch op s dst src offset) = unit (access_opcode 6 s 3) dst src (offset_bits offset) (atomic_code op + 1)
+encoding (insn.AtomicFetch op s dst src offset) =
+    unit (access_opcode 6 s 3) dst src (offset_bits offset) (atomic_code op + 1)
 encoding (insn.CompareExchange s dst src offset) = unit (access_opcode 6 s 3) dst src (offset_bits offset) 0xf1
 
 -- the bytes of code from a place on begin with the encoding of the instruction

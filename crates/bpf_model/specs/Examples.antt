@@ -26,7 +26,8 @@ store_past_the_end = first_range_in_r1 ++ (0x72 ∷ 1 ∷ 8 ∷ 0 ∷ 85 ∷ 0 �
 
 -- ja 1, lddw r0 0, exit: the target is the second unit of the load
 abbrev pub jump_into_a_wide_load : List ℕ
-jump_into_a_wide_load = 0x05 ∷ 0 ∷ 1 ∷ 0 ∷ 0 ∷ 0 ∷ 0 ∷ 0 ∷ 0x18 ∷ 0 ∷ 0 ∷ 0 ∷ 0 ∷ 0 ∷ 0 ∷ 0 ∷ 0 ∷ 0 ∷ 0 ∷ 0 ∷ 0 ∷ 0 ∷ 0 ∷ 0
+jump_into_a_wide_load =
+    0x05 ∷ 0 ∷ 1 ∷ 0 ∷ 0 ∷ 0 ∷ 0 ∷ 0 ∷ 0x18 ∷ 0 ∷ 0 ∷ 0 ∷ 0 ∷ 0 ∷ 0 ∷ 0 ∷ 0 ∷ 0 ∷ 0 ∷ 0 ∷ 0 ∷ 0 ∷ 0 ∷ 0
     ∷ 0x95 ∷ 0 ∷ 0 ∷ 0 ∷ 0 ∷ 0 ∷ 0 ∷ 0 ∷ []
 
 -- callp -1: a function that calls itself
@@ -35,12 +36,16 @@ calls_itself = 0x85 ∷ 0x10 ∷ 0 ∷ 0 ∷ 0xff ∷ 0xff ∷ 0xff ∷ 0xff ∷
 
 -- jeq64 r1 0 2, sub64 r1 1, callp -3, exit: as many frames below the first as R1 says
 abbrev pub calls_down : List ℕ
-calls_down = 0x15 ∷ 0x01 ∷ 0x02 ∷ 0 ∷ 0 ∷ 0 ∷ 0 ∷ 0 ∷ 0x17 ∷ 0x01 ∷ 0 ∷ 0 ∷ 0x01 ∷ 0 ∷ 0 ∷ 0 ∷ 0x85 ∷ 0x10 ∷ 0 ∷ 0 ∷ 0xfd ∷ 0xff ∷ 0xff ∷ 0xff
+calls_down =
+    0x15 ∷ 0x01 ∷ 0x02 ∷ 0 ∷ 0 ∷ 0 ∷ 0 ∷ 0 ∷ 0x17 ∷ 0x01 ∷ 0 ∷ 0 ∷ 0x01 ∷ 0 ∷ 0 ∷ 0 ∷ 0x85 ∷ 0x10 ∷ 0 ∷ 0 ∷ 0xfd ∷ 0xff
+    ∷ 0xff ∷ 0xff
     ∷ 0x95 ∷ 0 ∷ 0 ∷ 0 ∷ 0 ∷ 0 ∷ 0 ∷ 0 ∷ []
 
 -- std r1 0 9, mov64 r2 5, afaddd r1 0 r2, mov64 r0 r2, exit, behind the load of r1
 abbrev pub fetch_and_add : List ℕ
-fetch_and_add = first_range_in_r1 ++ (0x7a ∷ 0x01 ∷ 0 ∷ 0 ∷ 0x09 ∷ 0 ∷ 0 ∷ 0 ∷ 0xb7 ∷ 0x02 ∷ 0 ∷ 0 ∷ 0x05 ∷ 0 ∷ 0 ∷ 0 ∷ 0xdb ∷ 0x21 ∷ 0 ∷ 0 ∷ 0x01 ∷ 0 ∷ 0 ∷ 0
+fetch_and_add =
+    first_range_in_r1
+    ++ (0x7a ∷ 0x01 ∷ 0 ∷ 0 ∷ 0x09 ∷ 0 ∷ 0 ∷ 0 ∷ 0xb7 ∷ 0x02 ∷ 0 ∷ 0 ∷ 0x05 ∷ 0 ∷ 0 ∷ 0 ∷ 0xdb ∷ 0x21 ∷ 0 ∷ 0 ∷ 0x01 ∷ 0 ∷ 0 ∷ 0
     ∷ 0xbf ∷ 0x20 ∷ 0 ∷ 0 ∷ 0 ∷ 0 ∷ 0 ∷ 0 ∷ 0x95 ∷ 0 ∷ 0 ∷ 0 ∷ 0 ∷ 0 ∷ 0 ∷ 0 ∷ [])
 
 -- call 1, exit: the length of the range of index R1

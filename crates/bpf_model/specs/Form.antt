@@ -194,7 +194,8 @@ mov_imm f = when ((f.opcode == 0xb4 || f.opcode == 0xb7) && is_writable f.dst &&
 
 -- MOV of a register
 abbrev pub mov_reg : Fields → Row
-mov_reg f = when ((f.opcode == 0xbc || f.opcode == 0xbf) && is_writable f.dst && is_register f.src && f.offset == 0 && f.imm == 0)
+mov_reg f =
+    when ((f.opcode == 0xbc || f.opcode == 0xbf) && is_writable f.dst && is_register f.src && f.offset == 0 && f.imm == 0)
     (Some (insn.MovReg (f.opcode == 0xbf) f.dst f.src))
 
 -- MOVSX to 32 bits
@@ -242,7 +243,8 @@ branch_reg f = when (is_jump_reg f && is_register f.dst && is_register f.src && 
 
 -- CALL of helper 1
 abbrev pub call_helper : Fields → Row
-call_helper f = when (f.opcode == 0x85 && f.dst == 0 && f.src == 0 && f.offset == 0 && f.imm == 1) (Some insn.CallHelper)
+call_helper f =
+    when (f.opcode == 0x85 && f.dst == 0 && f.src == 0 && f.offset == 0 && f.imm == 1) (Some insn.CallHelper)
 
 -- CALL of a function of the same program
 abbrev pub call_local : Fields → Row

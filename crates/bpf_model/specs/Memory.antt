@@ -53,8 +53,10 @@ CoversByte ranges ns offset = (index : ℕ) × LiesIn (range_at ranges index) ns
 
 -- whether a byte of a namespace lies in one of the read-write ranges
 abbrev pub CoversForWriting : List MemRange → ℕ → ℕ → Type 0
-CoversForWriting ranges ns offset = (index : ℕ) × IsTrue (allows_writing (range_at ranges index).access) × LiesIn (range_at ranges index) ns offset
+CoversForWriting ranges ns offset =
+    (index : ℕ) × IsTrue (allows_writing (range_at ranges index).access) × LiesIn (range_at ranges index) ns offset
 
 -- no two of the ranges have a byte in common
 abbrev pub AreApart : List MemRange → Type 0
-AreApart ranges = AllPairs (λ (r s : MemRange). (k l : ℕ) → k < r.len → l < s.len → r.ns ≡ s.ns → r.at + k ≢ s.at + l) ranges
+AreApart ranges =
+    AllPairs (λ (r s : MemRange). (k l : ℕ) → k < r.len → l < s.len → r.ns ≡ s.ns → r.at + k ≢ s.at + l) ranges

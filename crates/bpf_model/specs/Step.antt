@@ -45,11 +45,13 @@ width_in_bits wide = if wide then 64 else 32
 -- arithmetic puts the value of an operation on the destination and an operand into the destination (RFC 9669,
 -- section 4.1)
 abbrev pub arithmetic : Machine → AluOp → Bool → ℕ → ℕ → Effect
-arithmetic m op wide dst operand = next (with_register m dst (value_of op (width_in_bits wide) (register m dst) operand))
+arithmetic m op wide dst operand =
+    next (with_register m dst (value_of op (width_in_bits wide) (register m dst) operand))
 
 -- a conditional jump is taken where the comparison of the destination and an operand holds (RFC 9669, section 4.3)
 abbrev pub branch : Machine → JumpOp → Bool → ℕ → ℕ → ℤ → Effect
-branch m op wide dst operand offset = if compares op (width_in_bits wide) (register m dst) operand then jump m offset else next m
+branch m op wide dst operand offset =
+    if compares op (width_in_bits wide) (register m dst) operand then jump m offset else next m
 
 -- ---- memory
 
@@ -59,13 +61,15 @@ address m base offset = (register m base + unsigned 64 offset) % 2 ^ 64
 
 -- so many bytes at a location; none where it is nowhere
 abbrev pub bytes_at : Machine → Location → ℕ → Option (List ℕ)
-bytes_at m (InRange index offset) n = let r = range_at m.ranges index in Some (bytes_from m.memory r.ns (r.at + offset) n)
+bytes_at m (InRange index offset) n =
+    let r = range_at m.ranges index in Some (bytes_from m.memory r.ns (r.at + offset) n)
 bytes_at m (InStack offset) n = Some (piece m.stack offset n)
 bytes_at m Nowhere n = None
 
 -- the machine with these bytes at a location; none where it is nowhere
 abbrev pub patched_at : Machine → Location → List ℕ → Option Machine
-patched_at m (InRange index offset) bytes = let r = range_at m.ranges index in Some (record m { memory = overwritten m.memory r.ns (r.at + offset) bytes })
+patched_at m (InRange index offset) bytes =
+    let r = range_at m.ranges index in Some (record m { memory = overwritten m.memory r.ns (r.at + offset) bytes })
 patched_at m (InStack offset) bytes = Some (record m { stack = patched m.stack offset bytes })
 patched_at m Nowhere bytes = None
 
@@ -116,7 +120,8 @@ call m distance =
 -- execution with R0
 abbrev pub return_to : Machine → List SavedFrame → Effect
 return_to m [] = Ends (Exit (register m 0))
-return_to m (frame ∷ frames) = Goes (record m { registers = take 6 m.registers ++ frame.registers; frames = frames }) (pos frame.return_place)
+return_to m (frame ∷ frames) =
+    Goes (record m { registers = take 6 m.registers ++ frame.registers; frames = frames }) (pos frame.return_place)
 
 -- ---- all instructions
 
@@ -143,7 +148,8 @@ effect (insn.CallLocal imm) m = call m imm
 effect insn.Exit m = return_to m m.frames
 effect (insn.LoadImm dst value) m = Goes (with_register m dst value) (pos (m.counter + 2))
 effect (insn.Load size dst src offset) m = load_number m (address m src offset) size dst (λ n. n)
-effect (insn.LoadSigned size dst src offset) m = load_number m (address m src offset) size dst (λ n. sign_extended (8 * byte_count size) 64 n)
+effect (insn.LoadSigned size dst src offset) m =
+    load_number m (address m src offset) size dst (λ n. sign_extended (8 * byte_count size) 64 n)
 effect (insn.StoreImm size dst offset imm) m = store_number m (address m dst offset) size (unsigned 64 imm)
 effect (insn.StoreReg size dst src offset) m = store_number m (address m dst offset) size (register m src)
 effect (insn.Atomic op size dst src offset) m =
@@ -178,4 +184,5 @@ settled program m (Ends ending) = Stops ending m.memory
 
 -- one step: the instruction at the program counter is executed
 abbrev pub step : Program → Machine → Step
-step program m = option_map_or (λ i. settled program m (effect i m)) (program m.counter) (Stops (BadJump m.counter) m.memory)
+step program m =
+    option_map_or (λ i. settled program m (effect i m)) (program m.counter) (Stops (BadJump m.counter) m.memory)

@@ -14,7 +14,8 @@ units_of _ = 1
 -- comes the place behind its instruction
 abbrev pub reaches : ℕ → List ℕ → ℕ → ℕ → Bool
 reaches zero code from place = false
-reaches (suc n) code from place = from == place || option_map_or (λ i. reaches n code (from + units_of i) place) (form code from) false
+reaches (suc n) code from place =
+    from == place || option_map_or (λ i. reaches n code (from + units_of i) place) (form code from) false
 
 -- whether a place is a start: the walk from 0, which has at most one place for each byte and the end,
 -- comes to it before the end

@@ -17,8 +17,10 @@ pub enum Location {
 /// is resolved to a range or to the stack exactly where all its bytes lie there, and one for writing exactly
 /// where they lie in a read-write range or in the stack.
 pub fn addresses_are_resolved()
-    ensures lies_there { (lengths : List ℕ) (address size : ℕ) → LiesAt lengths address size (resolve lengths address size) }
-    ensures found { (lengths : List ℕ) (address size : ℕ) (location : Location) → All (λ len. len < 2 ^ 32) lengths → length lengths ≤ 16 →
+    ensures lies_there { (lengths : List ℕ) (address size : ℕ)
+        → LiesAt lengths address size (resolve lengths address size) }
+    ensures found { (lengths : List ℕ) (address size : ℕ) (location : Location) → All (λ len. len < 2 ^ 32) lengths
+        → length lengths ≤ 16 →
         location ≢ Nowhere → LiesAt lengths address size location → resolve lengths address size ≡ location }
     ensures is_for_writing { (read_write : List Bool) (lengths : List ℕ) (address size : ℕ) →
         let location = resolve_to_write read_write lengths address size in LiesAt lengths address size location × IsForWriting read_write location }

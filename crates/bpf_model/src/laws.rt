@@ -39,7 +39,8 @@ pub fn runs_depend_on_windows()
 /// parameters, the number of ranges and their lengths are of 64 bits too, an exit has a number of 64 bits,
 /// and a fault a place of the code.
 pub fn runs_keep_sizes()
-    ensures bytes { (program : Program) (ranges : List MemRange) (memory : Memory) (p1 p2 budget : ℕ) → HoldsBytes memory →
+    ensures bytes { (program : Program) (ranges : List MemRange) (memory : Memory) (p1 p2 budget : ℕ)
+        → HoldsBytes memory →
         HoldsBytes (outcome program ranges memory p1 p2 budget).memory }
     ensures ending { (code : List ℕ) (ranges : List MemRange) (memory : Memory) (p1 p2 budget : ℕ) → HoldsBytes memory →
         All (λ b. b < 256) code → All (λ (range : MemRange). range.len < 2 ^ 64) ranges → length ranges < 2 ^ 64 → p1 < 2 ^ 64 → p2 < 2 ^ 64 →

@@ -20,7 +20,8 @@ pub fn values_by_example()
     // -7 by 3 and by 2, and the least number by -1
     ensures signed_remainder { value_of AluOp.Smod 64 0xffff_ffff_ffff_fff9 3 ≡ 0xffff_ffff_ffff_ffff }
     ensures signed_quotient { value_of AluOp.Sdiv 64 0xffff_ffff_ffff_fff9 2 ≡ 0xffff_ffff_ffff_fffd }
-    ensures least_quotient_64 { value_of AluOp.Sdiv 64 0x8000_0000_0000_0000 0xffff_ffff_ffff_ffff ≡ 0x8000_0000_0000_0000 }
+    ensures least_quotient_64 { value_of AluOp.Sdiv 64 0x8000_0000_0000_0000 0xffff_ffff_ffff_ffff
+        ≡ 0x8000_0000_0000_0000 }
     ensures least_remainder_64 { value_of AluOp.Smod 64 0x8000_0000_0000_0000 0xffff_ffff_ffff_ffff ≡ 0 }
     ensures least_quotient_32 { value_of AluOp.Sdiv 32 0x8000_0000 0xffff_ffff ≡ 0x8000_0000 }
     ensures least_remainder_32 { value_of AluOp.Smod 32 0x8000_0000 0xffff_ffff ≡ 0 }
@@ -42,16 +43,20 @@ pub fn laws_of_values()
     // A result has the width of its operation, and what is stored the size of its access.
     ensures value_fits { (op : AluOp) → (width a b : ℕ) → value_of op width a b < 2 ^ width }
     ensures swap_fits { (op : SwapOp) → (bits : Width) → (a : ℕ) → swapped op bits a < 2 ^ bits_of bits }
-    ensures store_fits { (op : AtomicOp) → (size : Size) → (old source r0 : ℕ) → old < 2 ^ (8 * byte_count size) → stored_by op size old source r0 < 2 ^ (8 * byte_count size) }
+    ensures store_fits { (op : AtomicOp) → (size : Size) → (old source r0 : ℕ) → old < 2 ^ (8 * byte_count size)
+        → stored_by op size old source r0 < 2 ^ (8 * byte_count size) }
 
     // SMOD is `a - b * (a SDIV b)`, for every divisor.
-    ensures remainder_64 { (a b : ℕ) → value_of AluOp.Smod 64 a b ≡ value_of AluOp.Sub 64 a (value_of AluOp.Mul 64 b (value_of AluOp.Sdiv 64 a b)) }
-    ensures remainder_32 { (a b : ℕ) → value_of AluOp.Smod 32 a b ≡ value_of AluOp.Sub 32 a (value_of AluOp.Mul 32 b (value_of AluOp.Sdiv 32 a b)) }
+    ensures remainder_64 { (a b : ℕ)
+        → value_of AluOp.Smod 64 a b ≡ value_of AluOp.Sub 64 a (value_of AluOp.Mul 64 b (value_of AluOp.Sdiv 64 a b)) }
+    ensures remainder_32 { (a b : ℕ)
+        → value_of AluOp.Smod 32 a b ≡ value_of AluOp.Sub 32 a (value_of AluOp.Mul 32 b (value_of AluOp.Sdiv 32 a b)) }
 
     // The amount of a shift is the operand under the mask 0x3f or 0x1f.
     ensures shift_64 { (a b : ℕ) → value_of AluOp.Lsh 64 a b ≡ (a * 2 ^ bit_and b 0x3f) % 2 ^ 64 }
     ensures shift_32 { (a b : ℕ) → value_of AluOp.Lsh 32 a b ≡ (a * 2 ^ bit_and b 0x1f) % 2 ^ 32 }
 
     // To reverse bytes twice leaves the low bits.
-    ensures swapped_twice { (bits : Width) → (a : ℕ) → swapped SwapOp.Swap bits (swapped SwapOp.Swap bits a) ≡ swapped SwapOp.ToLittle bits a }
+    ensures swapped_twice { (bits : Width) → (a : ℕ)
+        → swapped SwapOp.Swap bits (swapped SwapOp.Swap bits a) ≡ swapped SwapOp.ToLittle bits a }
 {}

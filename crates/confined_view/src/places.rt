@@ -44,7 +44,9 @@ pub(crate) fn location_to_read(windows: &[Window], address: u64, size: Size) -> 
 pub(crate) fn location_to_write(windows: &[Window], address: u64, size: Size) -> Location
     requires few { length windows.now ≤ 16 }
     requires short { All (λ w. length w < 2 ^ 32) (window_bytes windows.now) }
-    ensures { result ≡ resolve_to_write (writable_windows windows.now) (map length (window_bytes windows.now)) address (byte_count size) }
+    ensures { result
+        ≡ resolve_to_write (writable_windows windows.now) (map length (window_bytes windows.now)) address
+        (byte_count size) }
 {
     let location = location_to_read(windows, address, size);
     match location {

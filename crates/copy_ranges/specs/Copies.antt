@@ -19,8 +19,10 @@ pub record CopyRegions : Type 0 where
 
 -- what a command copies; None where it is no copy
 abbrev pub copy_of : Configuration → Command → Option CopyRegions
-copy_of c (NvmCopy ns lba from) = Some (record { sources = map (source_region c) from; space = space.Nvm ns; start = lba * c.block; unit = c.block })
-copy_of c (MemCopy ns at from) = Some (record { sources = map (source_region c) from; space = space.Mem ns; start = at; unit = 1 })
+copy_of c (NvmCopy ns lba from) =
+    Some (record { sources = map (source_region c) from; space = space.Nvm ns; start = lba * c.block; unit = c.block })
+copy_of c (MemCopy ns at from) =
+    Some (record { sources = map (source_region c) from; space = space.Mem ns; start = at; unit = 1 })
 copy_of c _ = None
 
 -- the checks of a copy, in their order

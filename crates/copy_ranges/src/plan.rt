@@ -73,7 +73,8 @@ fn plan(
         (λ _. first_failing (copy_checks config.now space start unit (map (source_region config.now) sources.now)) ≡ None)
         (λ status. first_failing (copy_checks config.now space start unit (map (source_region config.now) sources.now)) ≡ Some status) }
     ensures sources { IfOk result (λ plan. plan.sources.items ≡ map (source_region config.now) sources.now) }
-    ensures to { IfOk result (λ plan. plan.to ≡ destination_of space start (map (source_region config.now) sources.now)) }
+    ensures to { IfOk result
+        (λ plan. plan.to ≡ destination_of space start (map (source_region config.now) sources.now)) }
 {
     let total = total_len(config, sources);
     let destination = WideRange::new(space, start, total);

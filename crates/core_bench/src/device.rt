@@ -77,7 +77,8 @@ impl Device {
     pub fn submit(&mut self, host: u32, cid: u32, command: Arc<Command>) -> bool
         requires { IsHost host }
         ensures later { IsLater self.old self.new }
-        ensures sent { sent_on self.new ≡ (if result then sent_on self.old ++ sent_as host cid (arc_value command) ∷ [] else sent_on self.old) }
+        ensures sent { sent_on self.new
+            ≡ (if result then sent_on self.old ++ sent_as host cid (arc_value command) ∷ [] else sent_on self.old) }
         ensures open { open_on self.new ≡ open_on self.old }
         ensures over { over_on self.new ≡ over_on self.old }
     {

@@ -28,7 +28,8 @@ const NEXT: u64 = 64;
 // A device with one memory namespace, the largest there can be, for so many commands.
 fn device(alloc: Global, commands: u32) -> Option<Device>
     requires { commands ≤ MAX_COMMANDS }
-    ensures { IfSome result (λ device. device ≡ record { config = plain_config MAX_NAMESPACE; commands = commands; trail = [] }) }
+    ensures { IfSome result
+        (λ device. device ≡ record { config = plain_config MAX_NAMESPACE; commands = commands; trail = [] }) }
 {
     let config = Config::new(512, DEPTH, 1000)?.with_size(SpaceId::Mem(1), MAX_NAMESPACE as u32)?;
     Device::new(alloc, &config, commands)
@@ -180,7 +181,8 @@ fn claim_first(device: &mut Device, claims: u32) -> Option<()>
 fn go_on(alloc: Global, device: &mut Device, apart: bool, number: u32) -> Option<()>
     requires { number < MAX_COMMANDS }
     ensures later { IsLater device.old device.new }
-    ensures sent { OnSome result (sent_on device.new ≡ sent_on device.old ++ sent_in_turn apart (number + OUTSTANDING) ∷ []) }
+    ensures sent { OnSome result
+        (sent_on device.new ≡ sent_on device.old ++ sent_in_turn apart (number + OUTSTANDING) ∷ []) }
     ensures open { OnSome result (open_on device.new ≡ open_on device.old) }
     ensures over { OnSome result (over_on device.new ≡ over_on device.old + 1) }
 {
@@ -198,7 +200,8 @@ fn go_on(alloc: Global, device: &mut Device, apart: bool, number: u32) -> Option
 pub fn deep(alloc: Global, apart: bool, rounds: u32) -> Option<u32>
     requires { rounds ≤ MAX_COMMANDS - OUTSTANDING }
     ensures told { IfSome result (λ over. over ≡ rounds) }
-    ensures done { OnSome result (ComesTo (plain_config MAX_NAMESPACE) (rounds + OUTSTANDING) (claims_where apart) rounds (IsInTurn apart)) }
+    ensures done { OnSome result
+        (ComesTo (plain_config MAX_NAMESPACE) (rounds + OUTSTANDING) (claims_where apart) rounds (IsInTurn apart)) }
 {
     let mut device = device(alloc, rounds + OUTSTANDING)?;
     fill_queues(alloc, &mut device, apart)?;

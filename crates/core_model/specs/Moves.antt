@@ -19,7 +19,8 @@ use Rattle.core_model.specs.Ties.{is_one_of}
 
 -- what a new command names, by its host's queue: of an Abort the submit of the outstanding command of its identifier
 abbrev pub names_in_queue : List Waiting → Command → Option ℕ
-names_in_queue waiting cmd = option_and_then (λ cid. option_map (λ (w : Waiting). w.sent) (under waiting cid)) (aborted_cid cmd)
+names_in_queue waiting cmd =
+    option_and_then (λ cid. option_map (λ (w : Waiting). w.sent) (under waiting cid)) (aborted_cid cmd)
 
 -- those that wait without the one of a submit
 abbrev pub without_waiting : List WaitingSubmit → ℕ → List WaitingSubmit
@@ -110,7 +111,8 @@ pub record FinishMoves (old new : Parts) (claim host sent : ℕ) (pieces : List 
       → new.out region ≡ (old.out region && not (is_one_of (map (λ (piece : RegionBytes). piece.region) pieces) region))
   pub slots : new.slots ≡ old.slots
   pub sets : new.sets ≡ old.sets
-  pub entries : new.entries ≡ old.entries ++ (let x : EntryPlaces = record { sent = sent; posted = old.count } in x) ∷ []
+  pub entries : new.entries
+      ≡ old.entries ++ (let x : EntryPlaces = record { sent = sent; posted = old.count } in x) ∷ []
 
 -- the reply to a waiting command of a host is posted at a place, and the tables are then these: an Abort that withdraws a
 -- command moves the parts twice so, first for itself and then for what it withdraws

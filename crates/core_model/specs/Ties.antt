@@ -47,7 +47,8 @@ as_kept c claim = record { key = claim.place; footprint = claimed_footprint c cl
 
 -- the places of an open claim
 abbrev pub as_places : OpenClaim → ClaimPlaces
-as_places claim = record { claim = claim.place; party = claim.party; host = claim.request.host; sent = claim.request.place }
+as_places claim =
+    record { claim = claim.place; party = claim.party; host = claim.request.host; sent = claim.request.place }
 
 -- whether a region is one of these
 abbrev pub is_one_of : List Region → Region → Bool

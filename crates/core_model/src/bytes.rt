@@ -38,7 +38,8 @@ pub fn regions_are_apart()
 /// share a byte. So put home one after the other they give what the finish of the claim says.
 pub fn pieces_come_home()
     ensures whole { (c : Configuration) (claim : OpenClaim)
-        → AllByRecursion (λ (piece : RegionBytes). length piece.bytes ≡ piece.region.len) (effect_of_claim c claim).pieces }
+        → AllByRecursion (λ (piece : RegionBytes). length piece.bytes ≡ piece.region.len)
+        (effect_of_claim c claim).pieces }
     ensures apart { (c : Configuration) (commands : ℕ) (p : Parts) (trail : Trail) (place : ℕ) (claim : OpenClaim)
         → StandFor c commands p trail → claim_at (world_of c trail).claims place ≡ Some claim
         → any_overlap (map (λ (piece : RegionBytes). piece.region) (effect_of_claim c claim).pieces) ≡ false }

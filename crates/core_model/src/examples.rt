@@ -16,7 +16,8 @@ use trail_model::Event;
 
 /// For each lawful trail there are parts that stand for it.
 pub fn trails_have_parts()
-    ensures { (c : Configuration) (commands : ℕ) (trail : Trail) → IsLawful c commands trail → StandFor c commands (parts_at c trail) trail }
+    ensures { (c : Configuration) (commands : ℕ) (trail : Trail) → IsLawful c commands trail
+        → StandFor c commands (parts_at c trail) trail }
 {}
 
 /// While a fill is claimed that a read meets, its bytes and its region are out, and the read waits and may not be
@@ -29,7 +30,8 @@ pub fn parts_by_example()
     ensures not_yet { take_answer_in (parts_at small two_that_meet) 1 1 ≡ Err NotYet }
     ensures busy { submit_cause_in small 3 (parts_at small two_that_meet) 1 1 ≡ Some CidBusy }
     ensures spent { submit_cause_in small 2 (parts_at small two_that_meet) 1 1 ≡ Some Spent }
-    ensures may { pickable_waiting small (parts_at small first_is_over) first_is_over ≡ record { sent = 1; names = None } ∷ [] }
+    ensures may { pickable_waiting small (parts_at small first_is_over) first_is_over
+        ≡ record { sent = 1; names = None } ∷ [] }
     ensures home { (parts_at small first_is_over).store (Mem 1) 3 ≡ Some 1 }
     ensures back { (parts_at small first_is_over).out (region_of (Mem 1) 0 4) ≡ false }
     ensures posted { take_answer_in (parts_at small first_is_over) 1 1 ≡ Ok 3 }
@@ -40,6 +42,8 @@ pub fn parts_by_example()
 /// place of the trail.
 pub fn withdrawn_parts_by_example()
     ensures names { withdrawn_waiting (parts_at small fill_and_abort).waiting (Some 0) ≡ Some 0 }
-    ensures claimed { withdrawn_waiting (parts_at small (fill_and_abort ++ Event.Claim 17 1 1 0 ∷ [])).waiting (Some 0) ≡ None }
-    ensures entries { entries_of small (fill_and_abort ++ Event.Do 17 1 2 1 answered_ok (Some 0) ∷ []) ≡ entry_of 2 1 ∷ entry_of 2 0 ∷ [] }
+    ensures claimed { withdrawn_waiting (parts_at small (fill_and_abort ++ Event.Claim 17 1 1 0 ∷ [])).waiting (Some 0)
+        ≡ None }
+    ensures entries { entries_of small (fill_and_abort ++ Event.Do 17 1 2 1 answered_ok (Some 0) ∷ [])
+        ≡ entry_of 2 1 ∷ entry_of 2 0 ∷ [] }
 {}

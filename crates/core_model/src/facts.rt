@@ -73,7 +73,8 @@ pub fn claims_find_their_bytes()
         → ((k : ℕ) → k < r.len → slice_get bytes k ≡ p.store r.space (r.start + k)) → bytes ≡ bytes_in contents r }
     ensures cut { (c : Configuration) (commands : ℕ) (p : Parts) (trail : Trail) (command : Command)
         → StandFor c commands p trail
-        → cut_for c (world_of c trail).state command ≡ pieces_of (world_of c trail).state.contents (carried_for c p command) }
+        → cut_for c (world_of c trail).state command
+        ≡ pieces_of (world_of c trail).state.contents (carried_for c p command) }
 {}
 
 /// That a trail is lawful holds in one way, so a value may carry it as a ghost field.

@@ -31,7 +31,8 @@ word_text word.Abort = codes "abort"
 abbrev pub all_words : List CommandWord
 all_words =
     word.NvmRead ∷ word.NvmWrite ∷ word.NvmZeroes ∷ word.NvmCopy ∷ word.MemRead ∷ word.MemWrite ∷ word.MemFill ∷ word.MemCopy
-    ∷ word.SetCreate ∷ word.SetDelete ∷ word.Load ∷ word.Unload ∷ word.Activate ∷ word.Deactivate ∷ word.Execute ∷ word.Abort ∷ []
+    ∷ word.SetCreate ∷ word.SetDelete ∷ word.Load ∷ word.Unload ∷ word.Activate ∷ word.Deactivate ∷ word.Execute
+    ∷ word.Abort ∷ []
 
 -- the word of a text, where it is one
 abbrev pub command_word : List ℕ → Option CommandWord

@@ -60,4 +60,5 @@ HasNumber space = (1 ≤ number_of space) × (number_of space ≤ NAMESPACES)
 
 -- the configuration with no namespace yet
 abbrev pub bare : ℕ → ℕ → ℕ → Configuration
-bare block depth budget = record { block = block; depth = depth; budget = budget; nvm = replicate NAMESPACES 0; mem = replicate NAMESPACES 0 }
+bare block depth budget =
+    record { block = block; depth = depth; budget = budget; nvm = replicate NAMESPACES 0; mem = replicate NAMESPACES 0 }

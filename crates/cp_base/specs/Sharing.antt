@@ -11,7 +11,8 @@ use Rattle.cp_base.specs.declared.lists.MemRange.{MemRange}
 
 -- where a source of a copy lies, in bytes
 abbrev pub source_region : Configuration → CopySource → Region
-source_region c (source.Nvm ns lba count) = record { space = space.Nvm ns; start = lba * c.block; len = count * c.block }
+source_region c (source.Nvm ns lba count) =
+    record { space = space.Nvm ns; start = lba * c.block; len = count * c.block }
 source_region c (source.Mem ns at len) = record { space = space.Mem ns; start = at; len = len }
 
 -- where a range of a set lies, in bytes

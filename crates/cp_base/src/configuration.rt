@@ -91,8 +91,10 @@ fn checked(
     nvm: [u32; NAMESPACES],
     mem: [u32; NAMESPACES],
 ) -> Option<Config>
-    ensures found { IsSome result ↔ IsWithinLimits (record { block = block; depth = depth; budget = budget; nvm = nvm; mem = mem }) }
-    ensures value { IfSome result (λ c. c ≡ record { block = block; depth = depth; budget = budget; nvm = nvm; mem = mem }) }
+    ensures found { IsSome result ↔ IsWithinLimits
+        (record { block = block; depth = depth; budget = budget; nvm = nvm; mem = mem }) }
+    ensures value { IfSome result
+        (λ c. c ≡ record { block = block; depth = depth; budget = budget; nvm = nvm; mem = mem }) }
 {
     let is_header = (block == 512 || block == 4096)
         && (1..=MAX_DEPTH).contains(&depth)

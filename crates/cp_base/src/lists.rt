@@ -154,7 +154,8 @@ impl Model for SetRanges {
 impl SetRanges {
     /// These ranges. `None` where there are none or more than 16.
     pub fn new(alloc: Global, items: &[MemRange]) -> Result<Option<SetRanges>, NoMemory>
-        ensures found { IfOk result (λ ranges. IsSome ranges ↔ ((0 < length items.now) × (length items.now ≤ MAX_ITEMS))) }
+        ensures found { IfOk result
+            (λ ranges. IsSome ranges ↔ ((0 < length items.now) × (length items.now ≤ MAX_ITEMS))) }
         ensures value { IfOk result (λ ranges. IfSome ranges (λ s. s ≡ items.now)) }
     {
         match RangeList::new(alloc, items) {

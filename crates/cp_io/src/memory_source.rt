@@ -37,7 +37,8 @@ impl MemSource {
     /// A source that has these bytes left. It takes no memory.
     pub fn new(bytes: Bytes, most: u32, fails: Vec<u32>) -> MemSource
         requires { 0 < most }
-        ensures { result ≡ record { left = bytes.items; given = 0; most = most; fails = fails.items; calls = 0; faults = 0 } }
+        ensures { result
+            ≡ record { left = bytes.items; given = 0; most = most; fails = fails.items; calls = 0; faults = 0 } }
     {
         MemSource {
             bytes,

@@ -63,7 +63,8 @@ order_of_word word =
 
 -- what a word and another order
 abbrev pub order_of_two : List ℕ → List ℕ → Option Order
-order_of_two word first = if bytes_eq word (codes "serve") then with_one (λ workers. order.Serve workers) (workers_of first) else None
+order_of_two word first =
+    if bytes_eq word (codes "serve") then with_one (λ workers. order.Serve workers) (workers_of first) else None
 
 -- what a word and two others order
 abbrev pub order_of_three : List ℕ → List ℕ → List ℕ → Option Order

@@ -15,7 +15,8 @@ pub fn order_laws()
 /// What some words are: orders at the limits, and words that are nearly orders.
 pub fn orders_by_example()
     ensures none { order_of [] ≡ None }
-    ensures step { order_of (codes "step" ∷ codes "16" ∷ codes "18446744073709551615" ∷ []) ≡ Some (order.Step 16 18446744073709551615) }
+    ensures step { order_of (codes "step" ∷ codes "16" ∷ codes "18446744073709551615" ∷ [])
+        ≡ Some (order.Step 16 18446744073709551615) }
     ensures no_workers { order_of (codes "step" ∷ codes "0" ∷ codes "0" ∷ []) ≡ None }
     ensures seventeen { order_of (codes "step" ∷ codes "17" ∷ codes "0" ∷ []) ≡ None }
     ensures word_missing { order_of (codes "step" ∷ codes "1" ∷ []) ≡ None }

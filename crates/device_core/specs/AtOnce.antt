@@ -13,7 +13,8 @@ use Rattle.trail_model.specs.Lawful.{is_abort}
 
 -- a command is carried out or refused, or finds no memory
 abbrev pub CarriesOut : Configuration → State → Command → Answer → State → Type 0
-CarriesOut c s cmd answer next = (outcome_of c s cmd ≡ record { answer = answer; next = next }) ⊎ FindsNoMemory c s cmd answer next
+CarriesOut c s cmd answer next =
+    (outcome_of c s cmd ≡ record { answer = answer; next = next }) ⊎ FindsNoMemory c s cmd answer next
 
 -- whether a command changes tables and moves no bytes
 abbrev pub changes_tables : Command → Bool
@@ -21,11 +22,13 @@ changes_tables cmd = not (moves_bytes cmd) && not (is_abort cmd)
 
 -- what a command that is done at once is told, where an Abort withdraws this
 abbrev pub told_at_once : Configuration → State → Command → Option ℕ → Answer
-told_at_once c s cmd aborts = if is_abort cmd then tells status.Ok (if is_some aborts then 0 else 1) else (outcome_of c s cmd).answer
+told_at_once c s cmd aborts =
+    if is_abort cmd then tells status.Ok (if is_some aborts then 0 else 1) else (outcome_of c s cmd).answer
 
 -- a command is done at once, told this, and leaves this state: there is no memory, where it takes memory; or it is told what
 -- the device answers, where it moves no bytes or is refused
 abbrev pub IsDoneAtOnce : Bool → Configuration → State → Command → Option ℕ → Answer → State → Type 0
-IsDoneAtOnce true c s cmd aborts answer next = (answer ≡ only_status status.NoMemory) × IsTrue (takes_memory c s cmd) × (next ≡ s)
+IsDoneAtOnce true c s cmd aborts answer next =
+    (answer ≡ only_status status.NoMemory) × IsTrue (takes_memory c s cmd) × (next ≡ s)
 IsDoneAtOnce false c s cmd aborts answer next =
     (answer ≡ told_at_once c s cmd aborts) × IsTrue (not (moves_bytes cmd) || is_some (refusal_of c s cmd)) × (next ≡ (outcome_of c s cmd).next)

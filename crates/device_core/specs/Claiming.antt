@@ -27,9 +27,11 @@ pub record Begins (old new : Keep) (places : ClaimPlaces) (touched : Footprint) 
   pub submitted : new.submitted ≡ old.submitted
   pub at_rest : new.at_rest ≡ old.at_rest
   pub waiting : new.waiting.items ≡ without_waiting old.waiting.items places.sent
-  pub queues : OnlyQueue old.queues.items new.queues.items places.host (restaged (queue_of old.queues.items places.host) places.sent stage.Picked)
+  pub queues : OnlyQueue old.queues.items new.queues.items places.host
+      (restaged (queue_of old.queues.items places.host) places.sent stage.Picked)
   pub ordinals : new.ordinals.items ≡ old.ordinals.items
-  pub kept : new.kept.kept ≡ old.kept.kept ++ (let x : Claim = record { key = places.claim; footprint = touched } in x) ∷ []
+  pub kept : new.kept.kept
+      ≡ old.kept.kept ++ (let x : Claim = record { key = places.claim; footprint = touched } in x) ∷ []
   pub claims : new.claims.items ≡ old.claims.items ++ places ∷ []
   pub store : new.store ≡ old.store
   pub slots : new.slots ≡ old.slots
@@ -39,4 +41,5 @@ pub record Begins (old new : Keep) (places : ClaimPlaces) (touched : Footprint) 
 -- a party has claimed the command of a submit, and has its work
 pub record HasClaimed (c : Configuration) (commands : ℕ) (events : List KeptEvent) (by sent : ℕ) (new : Keep) (e : KeptEvent) (work : Work) : Type 0 where
   pub stands : StandWith c commands events new (told_event e)
-  pub claim : IsSomeAnd (submit_at (world_of c (trail_of events)).submits sent) (λ (s : Submission). ClaimsBy c (world_of c (trail_of events)) by (told_event e) work s)
+  pub claim : IsSomeAnd (submit_at (world_of c (trail_of events)).submits sent)
+      (λ (s : Submission). ClaimsBy c (world_of c (trail_of events)) by (told_event e) work s)

@@ -51,7 +51,8 @@ pub record Does (old new : Recorded) (by : ℕ) (s : Submission) : Type 0 where
 abbrev pub Gives : Recorded → ℕ → ℕ → Picked → Recorded → Type 0
 Gives old by skip (picked.Claimed work claim) new =
     (claim ≡ length old.trail)
-    × IsSomeAnd (slice_get (pickable_among old.config (world_in old)) skip) (λ (s : Submission). Claims old new by s work)
+    × IsSomeAnd (slice_get (pickable_among old.config (world_in old)) skip)
+    (λ (s : Submission). Claims old new by s work)
 Gives old by skip picked.Did new =
     IsSomeAnd (slice_get (pickable_among old.config (world_in old)) skip) (λ (s : Submission). Does old new by s)
 Gives old by skip picked.Nothing new =

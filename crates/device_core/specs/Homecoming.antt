@@ -50,7 +50,8 @@ pub record CanComeHome (homes : Homes) (pieces : List RegionBytes) : Type 0 wher
 
 -- pieces have come home
 pub record CameHome (old new : Homes) (pieces : List RegionBytes) : Type 0 where
-  pub bytes : (space : SpaceId) (offset : ℕ) → known_at new space offset ≡ filled_by_all pieces (λ s k. known_at old s k) space offset
+  pub bytes : (space : SpaceId) (offset : ℕ)
+      → known_at new space offset ≡ filled_by_all pieces (λ s k. known_at old s k) space offset
   pub out : (region : Region) → is_hole new region ≡ (is_hole old region && not (is_one_of (places_of pieces) region))
 
 -- the bytes that the claim of a key may write, none where none is kept

@@ -85,7 +85,8 @@ KeepsRoom old new = (depth commands : ℕ) → HasRoom depth commands old → Ha
 -- The reply to what a submit asks for can be posted: its command waits in its host's queue, and there is room for an entry.
 pub record CanPost (k : Keep) (asked : Asked) (sent : ℕ) : Type 0 where
   pub host : (1 ≤ asked.host) × (asked.host ≤ length k.queues.items)
-  pub waits : under (queue_of k.queues.items asked.host) asked.cid ≡ Some (let x : Waiting = record { cid = asked.cid; sent = sent; stage = Queued } in x)
+  pub waits : under (queue_of k.queues.items asked.host) asked.cid
+      ≡ Some (let x : Waiting = record { cid = asked.cid; sent = sent; stage = Queued } in x)
   pub apart : PlacesDiffer (queue_of k.queues.items asked.host)
   pub room : vec_len k.entries < vec_capacity k.entries
 

@@ -37,7 +37,8 @@ written_portion range = record { range = range; written = true }
 
 -- whether a region comes before another one, by namespaces and first bytes
 abbrev pub comes_before : Region → Region → Bool
-comes_before region other = space_before region.space other.space || (same_space region.space other.space && nat_lt region.start other.start)
+comes_before region other =
+    space_before region.space other.space || (same_space region.space other.space && nat_lt region.start other.start)
 
 -- portions with one more, in that order
 abbrev pub with_portion : Portion → List Portion → List Portion
@@ -53,7 +54,8 @@ run_portions (write ∷ writes) reads = with_portion (written_portion write) (ru
 
 -- the bytes of these regions are out, and all else is as before
 pub record AreTaken (old new : Homes) (regions : List Region) : Type 0 where
-  pub known : (space : SpaceId) (offset : ℕ) → known_at new space offset ≡ (if any_has_byte regions space offset then None else known_at old space offset)
+  pub known : (space : SpaceId) (offset : ℕ)
+      → known_at new space offset ≡ (if any_has_byte regions space offset then None else known_at old space offset)
   pub holes : (region : Region) → is_hole new region ≡ (is_one_of regions region || is_hole old region)
 
 -- a region can be taken out: it has bytes, all of them are at home, and it is not out itself

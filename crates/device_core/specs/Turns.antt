@@ -35,10 +35,12 @@ StandWith c commands events new e = StandFor c commands (parts_of (length events
 abbrev pub Turns : Configuration → ℕ → List KeptEvent → ℕ → ℕ → Turned → Keep → Keep → Type 0
 Turns c commands events by skip (turned.Claimed e work) old new =
     StandWith c commands events new (told_event e)
-    × IsSomeAnd (slice_get (pickable_among c (world_of c (trail_of events))) skip) (λ (s : Submission). ClaimsBy c (world_of c (trail_of events)) by (told_event e) work s)
+    × IsSomeAnd (slice_get (pickable_among c (world_of c (trail_of events))) skip)
+    (λ (s : Submission). ClaimsBy c (world_of c (trail_of events)) by (told_event e) work s)
 Turns c commands events by skip (turned.Did e) old new =
     StandWith c commands events new (told_event e)
-    × IsSomeAnd (slice_get (pickable_among c (world_of c (trail_of events))) skip) (λ (s : Submission). DoesBy (world_of c (trail_of events)) by (told_event e) s)
+    × IsSomeAnd (slice_get (pickable_among c (world_of c (trail_of events))) skip)
+    (λ (s : Submission). DoesBy (world_of c (trail_of events)) by (told_event e) s)
 Turns c commands events by skip turned.Nothing old new =
     (new ≡ old) × (length (pickable_among c (world_of c (trail_of events))) ≤ skip)
     × ((world_of c (trail_of events)).at_rest ≡ true → queued_among (world_of c (trail_of events)).submits ≡ [] → ⊥)

@@ -131,7 +131,8 @@ fn begin(keep: &mut Keep, places: ClaimPlaces, cid: u32, touched: Footprint)
         ≡ Some (record { cid = cid; sent = places.sent; stage = Stage.Queued }) }
     requires kept { length keep.old.kept.kept < keep.old.kept.most }
     requires claims { vec_len keep.old.claims < vec_capacity keep.old.claims }
-    ensures begins { PlacesDiffer (queue_of keep.old.queues.items places.host) → Begins keep.old keep.new places touched }
+    ensures begins { PlacesDiffer (queue_of keep.old.queues.items places.host)
+        → Begins keep.old keep.new places touched }
     ensures room { KeepsRoom keep.old keep.new }
 {
     leave_out(&mut keep.waiting, places.sent);
@@ -156,7 +157,8 @@ fn claim_now(
     requires idle { IsTrue (is_idle (world_of config.now (trail_of trail.now)) by) }
     requires waits { (i : ℕ) × (slice_get keep.old.waiting.items i ≡ Some x) }
     requires may { IsTrue (may_pick_asked config.now (parts_of (length trail.now) keep.old) (asked_at (trail_of trail.now) x.sent)) }
-    ensures claims { IfSome result (λ claimed. HasClaimed config.now commands trail.now by x.sent keep.new claimed.0 claimed.1) }
+    ensures claims { IfSome result
+        (λ claimed. HasClaimed config.now commands trail.now by x.sent keep.new claimed.0 claimed.1) }
     ensures room { OnSome result (KeepsRoom keep.old keep.new) }
     ensures unchanged { IfNone result (HasStore keep.old keep.new) }
 {

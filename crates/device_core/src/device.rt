@@ -227,7 +227,8 @@ impl Core {
 
     /// A party finishes the open claim that it made at a place of the trail: the bytes come home, and the reply is posted.
     pub fn finish(&mut self, by: u32, claim: u32, worked: Worked)
-        requires { IsSomeAnd (claim_at (world_in self.old).claims claim) (λ opened. HasWorked self.old by worked opened) }
+        requires { IsSomeAnd (claim_at (world_in self.old).claims claim)
+            (λ opened. HasWorked self.old by worked opened) }
         ensures finished { Appends self.old self.new (event.Finish by claim (answer_of worked.reply)) }
         ensures lawful { IsLawful self.new.config self.new.commands self.new.trail }
     {

@@ -151,8 +151,10 @@ impl Keep {
 
 // Posts the reply to the command that an Abort withdraws, where it withdraws one: at the Abort's own place.
 fn post_withdrawn(keep: &mut Keep, trail: &[Event], aborts: Option<u32>, posted: u32)
-    requires { IfSome aborts (λ place. IsSomeAnd (asked_at (trail_of trail.now) place) (λ asked. CanPost keep.old asked place)) }
-    ensures moves { WithdrawMoves (trail_of trail.now) (parts_of (posted + 1) keep.old) (parts_of (posted + 1) keep.new) posted aborts }
+    requires { IfSome aborts
+        (λ place. IsSomeAnd (asked_at (trail_of trail.now) place) (λ asked. CanPost keep.old asked place)) }
+    ensures moves { WithdrawMoves (trail_of trail.now) (parts_of (posted + 1) keep.old)
+        (parts_of (posted + 1) keep.new) posted aborts }
     ensures room { KeepsRoom keep.old keep.new }
 {
     if let Some(place) = aborts {

@@ -14,7 +14,8 @@ use std::alloc::Global;
 // The bytes of a portion, where it is only read; and none, where it may be written.
 fn read_bytes(alloc: Global, store: &Extents, portion: &Portion) -> Result<Bytes, NoMemory>
     requires { IsAtHome store.now portion.now.range }
-    ensures { IfOk result (λ bytes. IsReadIf portion.now.written store.now portion.now (record { range = portion.now.range; bytes = bytes })) }
+    ensures { IfOk result
+        (λ bytes. IsReadIf portion.now.written store.now portion.now (record { range = portion.now.range; bytes = bytes })) }
 {
     if portion.written {
         return Ok(Bytes::new(alloc));
@@ -72,7 +73,8 @@ pub(crate) fn take_written(
     requires ready { AllByRecursion (CanBeTaken store.old) (written_ranges (drop index portions.now)) }
     requires apart { any_overlap (written_ranges (drop index portions.now)) ≡ false }
     ensures taken { OnOk result (AreTaken store.old store.new (written_ranges (drop index portions.now))) }
-    ensures filled { OnOk result (AreFilled store.old (drop index portions.now) (drop index pieces.old.items) (drop index pieces.new.items)) }
+    ensures filled { OnOk result
+        (AreFilled store.old (drop index portions.now) (drop index pieces.old.items) (drop index pieces.new.items)) }
     ensures earlier { OnOk result (take index pieces.new.items ≡ take index pieces.old.items) }
     ensures length { length pieces.new.items ≡ length pieces.old.items }
     ensures unchanged { OnErr result (AreTaken store.old store.new []) }

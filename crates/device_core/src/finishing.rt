@@ -73,7 +73,8 @@ impl Keep {
             ≡ Some (record { cid = cid; sent = claim.sent; stage = Stage.Picked }) }
         requires kept { IsTrue (is_kept self.old.kept.kept claim.claim) }
         requires room { vec_len self.old.entries < vec_capacity self.old.entries }
-        requires home { CanComeHome self.old.store (homebound (writes_under self.old.kept.kept claim.claim) pieces.items) }
+        requires home { CanComeHome self.old.store
+            (homebound (writes_under self.old.kept.kept claim.claim) pieces.items) }
         ensures moves { PlacesDiffer (queue_of self.old.queues.items claim.host)
             → FinishMoves (parts_of posted self.old) (parts_of (posted + 1) self.new) claim.claim claim.host claim.sent
             (homebound (writes_under self.old.kept.kept claim.claim) pieces.items) }

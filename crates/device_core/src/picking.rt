@@ -49,7 +49,8 @@ fn meets_none(kept: &Claims, touched: &Footprint) -> bool
 
 // Whether a set may be deleted now: it is not there, or no open claim holds it.
 fn may_delete(kept: &Claims, sets: &Sets, set: u32) -> bool
-    ensures { result ≡ (is_none (ranges_under sets.now set) || not (is_set_kept (map as_kept_footprint kept.now.kept) set)) }
+    ensures { result
+        ≡ (is_none (ranges_under sets.now set) || not (is_set_kept (map as_kept_footprint kept.now.kept) set)) }
 {
     sets.get(set).is_none() || !is_set_held(kept, set)
 }

@@ -177,8 +177,10 @@ pub(crate) fn portions_of(
     requires touched { touched.now ≡ footprint_of config.now ranges.now command.now }
     requires not_empty { any_without_bytes (map range_region ranges.now) ≡ false }
     requires inside { list_any (is_outside config.now) (map range_region ranges.now) ≡ false }
-    ensures ranges { IfOk result (λ portions. portion_ranges portions.items ≡ carried_regions config.now ranges.now command.now) }
-    ensures written { IfOk result (λ portions. written_ranges portions.items ≡ writes_of config.now ranges.now command.now) }
+    ensures ranges { IfOk result
+        (λ portions. portion_ranges portions.items ≡ carried_regions config.now ranges.now command.now) }
+    ensures written { IfOk result
+        (λ portions. written_ranges portions.items ≡ writes_of config.now ranges.now command.now) }
 {
     if is_execution(command) {
         return of_set(alloc, config, ranges);

@@ -73,7 +73,8 @@ pub(crate) fn set_of<'s>(sets: &'s Sets, command: &Command) -> Option<&'s RangeL
 
 // Of how many bytes the answer to a command is, where it reads these runs.
 fn reply_len(command: &Command, reads: &[ByteRange]) -> u64
-    requires { (c : Configuration) × (ranges : List MemRange) × (reads.now ≡ (footprint_of c ranges command.now).reads) }
+    requires { (c : Configuration) × (ranges : List MemRange)
+        × (reads.now ≡ (footprint_of c ranges command.now).reads) }
     ensures { (c : Configuration) (ranges : List MemRange) (x : Execution) (all : AllBytes)
         → reads.now ≡ (footprint_of c ranges command.now).reads
         → length (written c x all command.now).answer.bytes ≤ result }
@@ -140,13 +141,15 @@ fn execution_setup(
     set: Option<&RangeList>,
     pieces: usize,
 ) -> Result<Setup, NoMemory>
-    requires runnable { (sets : List RangeSet) × (first_failing (runnable_checks (tables_of slots.now sets) slot) ≡ None) }
+    requires runnable { (sets : List RangeSet)
+        × (first_failing (runnable_checks (tables_of slots.now sets) slot) ≡ None) }
     requires set { IsSome set }
     ensures empty { IfOk result (λ setup. setup.windows.items ≡ []) }
     ensures windows { IfOk result (λ setup. pieces ≤ vec_capacity setup.windows) }
     ensures set { IfOk result (λ setup. setup.set ≡ option_copied set.entry) }
     ensures code { IfOk result (λ setup. (sets : List RangeSet)
-        → RunsDecoded (executable_in (tables_of slots.now sets) slot) (option_map (λ decoded. decoded.value) setup.code)) }
+        → RunsDecoded (executable_in (tables_of slots.now sets) slot)
+        (option_map (λ decoded. decoded.value) setup.code)) }
     ensures stack { IfOk result (λ setup. setup.stack.items ≡ replicate stack_len 0) }
 {
     let ranges = set.unwrap();
@@ -166,7 +169,8 @@ fn setup_of(
     set: Option<&RangeList>,
     pieces: usize,
 ) -> Result<Setup, NoMemory>
-    requires { (c : Configuration) × (sets : List RangeSet) × (refusal_of c (tables_of slots.now sets) command.now ≡ None)
+    requires { (c : Configuration) × (sets : List RangeSet)
+        × (refusal_of c (tables_of slots.now sets) command.now ≡ None)
         × (option_copied set ≡ set_in sets command.now) }
     ensures empty { IfOk result (λ setup. setup.windows.items ≡ []) }
     ensures fits { IfOk result (λ setup. is_execution command.now ≡ true → (sets : List RangeSet)
@@ -213,13 +217,16 @@ pub(crate) fn prepare(
     requires passes { refusal_of config.now (tables_of slots.now sets.now) (arc_value command.now) ≡ None }
     requires fits { AllByRecursion (SetFits config.now) sets.now }
     requires touched { touched.now ≡ touched_in config.now (tables_of slots.now sets.now) (arc_value command.now) }
-    requires home { AllByRecursion (IsAtHome store.old) (carried_in config.now (tables_of slots.now sets.now) (arc_value command.now)) }
+    requires home { AllByRecursion (IsAtHome store.old)
+        (carried_in config.now (tables_of slots.now sets.now) (arc_value command.now)) }
     requires whole { (region : Region) → 0 < region.len → IsAtHome store.old region → is_hole store.old region ≡ false }
     requires apart { any_overlap (taken_in config.now (tables_of slots.now sets.now) (arc_value command.now)) ≡ false }
     ensures work { IfOk result (λ work. IsWork config.now (tables_of slots.now sets.now) work) }
     ensures command { IfOk result (λ work. work.command.value ≡ arc_value command.now) }
-    ensures cut { IfOk result (λ work. AreCutAt store.old (carried_in config.now (tables_of slots.now sets.now) (arc_value command.now)) work.pieces.items) }
-    ensures taken { OnOk result (AreTaken store.old store.new (taken_in config.now (tables_of slots.now sets.now) (arc_value command.now))) }
+    ensures cut { IfOk result
+        (λ work. AreCutAt store.old (carried_in config.now (tables_of slots.now sets.now) (arc_value command.now)) work.pieces.items) }
+    ensures taken { OnOk result
+        (AreTaken store.old store.new (taken_in config.now (tables_of slots.now sets.now) (arc_value command.now))) }
     ensures unchanged { OnErr result (AreTaken store.old store.new []) }
 {
     let set = set_of(sets, command);

@@ -34,7 +34,8 @@ use Rattle.device_lock.specs.declared.jobs.Job.{Job}
 -- a command is submitted under an identifier: nothing spoke against it, and its submit is the pass's last event, at this place
 pub record IsSubmitted (d : DeviceName) (p : DevicePass) (cid : ℕ) (cmd : Command) (q : DevicePass) (place : ℕ) : Type 0 where
   pub before : Trail
-  pub turn : IsBackWith d p q before (event.Submit (party_of p) cid (ordinal_after (world_of d.config before).submits (party_of p)) cmd)
+  pub turn : IsBackWith d p q before
+      (event.Submit (party_of p) cid (ordinal_after (world_of d.config before).submits (party_of p)) cmd)
   pub at_place : place ≡ length before
   pub allowed : submit_cause d.config d.commands (world_of d.config before) (party_of p) cid ≡ None
   pub idle : IsIdle p → IsIdle q
@@ -81,7 +82,8 @@ pub record IsFirstClaimed (d : DeviceName) (p : DevicePass) (j : Job) : Type 0 w
   pub before : Trail
   pub first : Submission
   pub picked : slice_get (pickable_among d.config (world_of d.config before)) 0 ≡ Some first
-  pub turn : IsBackWith d p (pass_of_job j) before (event.Claim (party_of p) first.request.host first.request.ordinal first.request.place)
+  pub turn : IsBackWith d p (pass_of_job j) before
+      (event.Claim (party_of p) first.request.host first.request.ordinal first.request.place)
   pub job : IsJobFor d j (claim_of d.config (world_of d.config before) (party_of p) first.request)
 
 -- The first command that may be picked is done at once: this is the pass's last event. It withdraws what the command names, where
@@ -91,7 +93,8 @@ pub record IsFirstDone (d : DeviceName) (p q : DevicePass) : Type 0 where
   pub first : Submission
   pub answer : Answer
   pub picked : slice_get (pickable_among d.config (world_of d.config before)) 0 ≡ Some first
-  pub turn : IsBackWith d p q before (event.Do (party_of p) first.request.host first.request.ordinal first.request.place answer
+  pub turn : IsBackWith d p q before
+      (event.Do (party_of p) first.request.host first.request.ordinal first.request.place answer
       (withdrawn_place (world_of d.config before).submits first.request))
   pub idle : IsIdle p → IsIdle q
 
@@ -125,7 +128,8 @@ IsOfferedInTry d p (try_offer.Busy q word) = IsBackBusy d p q word
 -- a claim is ended: its finish, told as the command's local effect tells, is the last event of the pass, which is idle
 pub record IsCompleted (d : DeviceName) (x : Done) (q : DevicePass) : Type 0 where
   pub before : Trail
-  pub turn : IsBackWith d (pass_of_done x) q before (event.Finish (party_of (pass_of_done x)) (place_of_done x) (answer_of_done x))
+  pub turn : IsBackWith d (pass_of_done x) q before
+      (event.Finish (party_of (pass_of_done x)) (place_of_done x) (answer_of_done x))
   pub idle : IsIdle q
 
 -- ---- a rest

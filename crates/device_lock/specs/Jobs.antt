@@ -54,7 +54,8 @@ EndsWith mine e = (earlier : Trail) × (mine ≡ earlier ++ e ∷ [])
 -- pass has seen. The pass never has the turn.
 pub record HasClaim (d : DeviceName) (p : DevicePass) (place : ℕ) (claim : OpenClaim) : Type 0 where
   pub of_device : IsOfDevice d p
-  pub last : EndsWith (made_by p) (event.Claim (party_of p) claim.request.host claim.request.ordinal claim.request.place)
+  pub last : EndsWith (made_by p)
+      (event.Claim (party_of p) claim.request.host claim.request.ordinal claim.request.place)
   pub opened : claim_by (world_seen d p).claims (party_of p) ≡ Some claim
   pub at_place : claim.place ≡ place
 

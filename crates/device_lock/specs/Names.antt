@@ -21,7 +21,8 @@ pub record DeviceName : Type 0 where
 
 -- the lock of a device
 abbrev pub lock_of_device : DeviceName → LockName Fixed
-lock_of_device d = record { table = d.table; fixed = Some (record { config = d.config; commands = d.commands }); seats = d.seats }
+lock_of_device d =
+    record { table = d.table; fixed = Some (record { config = d.config; commands = d.commands }); seats = d.seats }
 
 -- a device with this trail, as its core shows it
 abbrev pub recorded_with : DeviceName → Trail → Recorded

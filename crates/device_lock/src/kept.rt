@@ -148,7 +148,8 @@ impl Kept {
 
     /// A party ends its claim, as `Core::finish` does.
     pub(crate) fn finish(&mut self, by: u32, claim: u32, worked: Worked)
-        requires { IsSomeAnd (claim_at (world_in self.old.core).claims claim) (λ opened. HasWorked self.old.core by worked opened) }
+        requires { IsSomeAnd (claim_at (world_in self.old.core).claims claim)
+            (λ opened. HasWorked self.old.core by worked opened) }
         ensures { Appends self.old.core self.new.core (event.Finish by claim (answer_of worked.reply)) }
     {
         self.core.finish(by, claim, worked);
@@ -158,7 +159,8 @@ impl Kept {
     /// A party says that the hosts send nothing more for now, as `Core::rest` does.
     pub(crate) fn rest(&mut self, by: u32)
         requires { IsParty by }
-        ensures { self.new.core ≡ (if (world_in self.old.core).at_rest then self.old.core else with_event self.old.core (event.Rest by)) }
+        ensures { self.new.core
+            ≡ (if (world_in self.old.core).at_rest then self.old.core else with_event self.old.core (event.Rest by)) }
     {
         self.core.rest(by);
         if self.core.event(self.events).is_some() {

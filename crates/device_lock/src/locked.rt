@@ -52,7 +52,8 @@ impl Device {
         ensures seats { IfOk result (λ r. seats_in r.1 ≡ MAX_HOSTS + workers) }
         ensures all { IfOk result (λ r. AreAllOfDevice r.0 r.1) }
         ensures idle { IfOk result (λ r. AreIdle r.1) }
-        ensures new { IfOk result (λ r. (n : ℕ) (p : _) → at_home r.1 n ≡ Some p → (seen_by p ≡ []) × (made_by p ≡ []) × (lost_by p ≡ [])) }
+        ensures new { IfOk result
+            (λ r. (n : ℕ) (p : _) → at_home r.1 n ≡ Some p → (seen_by p ≡ []) × (made_by p ≡ []) × (lost_by p ≡ [])) }
     {
         let first = Snapshot::of(&core);
         let (lock, passes) = SeatLock::new(alloc, Kept::new(core), MAX_HOSTS + workers)?;
@@ -65,9 +66,12 @@ impl Device {
         requires { AreAllOfDevice self.now passes.old }
         ensures all { AreAllOfDevice self.entry.now passes.new }
         ensures met { HaveMet passes.new }
-        ensures seen { (n : ℕ) (p q : _) → at_home passes.old n ≡ Some p → at_home passes.new n ≡ Some q → BeginsWith (seen_by q) (seen_by p) }
-        ensures made { (n : ℕ) (p q : _) → at_home passes.old n ≡ Some p → at_home passes.new n ≡ Some q → made_by q ≡ made_by p }
-        ensures lost { (n : ℕ) (p q : _) → at_home passes.old n ≡ Some p → at_home passes.new n ≡ Some q → BeginsWith (lost_by q) (lost_by p) }
+        ensures seen { (n : ℕ) (p q : _) → at_home passes.old n ≡ Some p → at_home passes.new n ≡ Some q
+            → BeginsWith (seen_by q) (seen_by p) }
+        ensures made { (n : ℕ) (p q : _) → at_home passes.old n ≡ Some p → at_home passes.new n ≡ Some q
+            → made_by q ≡ made_by p }
+        ensures lost { (n : ℕ) (p q : _) → at_home passes.old n ≡ Some p → at_home passes.new n ≡ Some q
+            → BeginsWith (lost_by q) (lost_by p) }
     {
         self.lock.meet(rt, passes);
     }
@@ -77,7 +81,8 @@ impl Device {
         requires { AreAllOfDevice self passes }
         ensures device { (result.config ≡ self.config) × (result.commands ≡ self.commands) }
         ensures lawful { IsLawful self.config self.commands result.trail }
-        ensures fits { (n : ℕ) (p : _) → at_home passes n ≡ Some p → FitsTrail party_of_event n (seen_by p) (made_by p) result.trail }
+        ensures fits { (n : ℕ) (p : _) → at_home passes n ≡ Some p
+            → FitsTrail party_of_event n (seen_by p) (made_by p) result.trail }
         ensures makers { All (λ e. (1 ≤ party_of_event e) × (party_of_event e ≤ seats_in passes)) result.trail }
     {
         let Device { first: _, lock } = self;

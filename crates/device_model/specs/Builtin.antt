@@ -69,7 +69,8 @@ abbrev pub left_by : Builtin → List (List ℕ) → List MemRange → Memory �
 left_by Count windows ranges memory p1 p2 = memory
 left_by Sum windows ranges memory p1 p2 = memory
 left_by Compare windows ranges memory p1 p2 = memory
-left_by Classes windows ranges memory p1 p2 = overwritten memory (range_at ranges 1).ns (range_at ranges 1).at (marks windows p1 p2)
+left_by Classes windows ranges memory p1 p2 =
+    overwritten memory (range_at ranges 1).ns (range_at ranges 1).at (marks windows p1 p2)
 
 -- an end that changes no byte
 abbrev pub ends_with : End → Memory → RunOutcome

@@ -84,9 +84,11 @@ abbrev pub checks_of : Configuration → State → Command → List Check
 checks_of c s (command.NvmRead ns lba count) = block_checks c ns lba count MAX_TRANSFER
 checks_of c s (command.NvmWrite ns lba bytes) = write_checks c ns lba (length bytes.items) MAX_TRANSFER
 checks_of c s (command.NvmZeroes ns lba count) = block_checks c ns lba count MAX_SPAN
-checks_of c s (command.NvmCopy ns lba from) = copy_checks c (space.Nvm ns) (lba * c.block) c.block (map (source_region c) from)
+checks_of c s (command.NvmCopy ns lba from) =
+    copy_checks c (space.Nvm ns) (lba * c.block) c.block (map (source_region c) from)
 checks_of c s (command.MemRead ns at len) = byte_checks (size_of c (space.Mem ns)) at len MAX_TRANSFER
-checks_of c s (command.MemWrite ns at bytes) = byte_checks (size_of c (space.Mem ns)) at (length bytes.items) MAX_TRANSFER
+checks_of c s (command.MemWrite ns at bytes) =
+    byte_checks (size_of c (space.Mem ns)) at (length bytes.items) MAX_TRANSFER
 checks_of c s (command.MemFill ns at len value) = byte_checks (size_of c (space.Mem ns)) at len MAX_SPAN
 checks_of c s (command.MemCopy ns at from) = copy_checks c (space.Mem ns) at 1 (map (source_region c) from)
 checks_of c s (command.SetCreate ranges) = set_checks c (length s.sets) (map range_region ranges)

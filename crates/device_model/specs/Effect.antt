@@ -23,7 +23,8 @@ done next = record { answer = only_status status.Ok; next = next }
 
 -- bytes were read, and the state is as before
 abbrev pub read : State → Region → Outcome
-read s region = record { answer = record { status = status.Ok; result = 0; bytes = bytes_in s.contents region }; next = s }
+read s region =
+    record { answer = record { status = status.Ok; result = 0; bytes = bytes_in s.contents region }; next = s }
 
 -- bytes were put into a namespace from place start on
 abbrev pub wrote : State → SpaceId → ℕ → List ℕ → Outcome
@@ -35,10 +36,12 @@ begun slot size = if is_empty_slot slot then replicate size None else slot_bytes
 
 -- what a command that passes its checks answers and leaves; an Abort that withdraws nothing answers 1
 abbrev pub effect_of : Configuration → State → Command → Outcome
-effect_of c s (command.NvmRead ns lba count) = read s (record { space = space.Nvm ns; start = lba * c.block; len = count * c.block })
+effect_of c s (command.NvmRead ns lba count) =
+    read s (record { space = space.Nvm ns; start = lba * c.block; len = count * c.block })
 effect_of c s (command.NvmWrite ns lba bytes) = wrote s (space.Nvm ns) (lba * c.block) bytes.items
 effect_of c s (command.NvmZeroes ns lba count) = wrote s (space.Nvm ns) (lba * c.block) (replicate (count * c.block) 0)
-effect_of c s (command.NvmCopy ns lba from) = wrote s (space.Nvm ns) (lba * c.block) (joined s.contents (map (source_region c) from))
+effect_of c s (command.NvmCopy ns lba from) =
+    wrote s (space.Nvm ns) (lba * c.block) (joined s.contents (map (source_region c) from))
 effect_of c s (command.MemRead ns at len) = read s (record { space = space.Mem ns; start = at; len = len })
 effect_of c s (command.MemWrite ns at bytes) = wrote s (space.Mem ns) at bytes.items
 effect_of c s (command.MemFill ns at len value) = wrote s (space.Mem ns) at (replicate len value)

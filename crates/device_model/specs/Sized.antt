@@ -45,7 +45,8 @@ IsSizedCommand cmd = IsSizedBy HoldBytes AreSizedRanges cmd
 -- what a slot holds: bytes, no more than a program may have
 abbrev pub IsSizedSlot : Slot → Type 0
 IsSizedSlot Empty = Unit {0}
-IsSizedSlot (Holding bytes active) = (length bytes ≤ MAX_PROGRAM) × All (λ (byte : Option ℕ). IfSome byte (λ b. b < 256)) bytes
+IsSizedSlot (Holding bytes active) =
+    (length bytes ≤ MAX_PROGRAM) × All (λ (byte : Option ℕ). IfSome byte (λ b. b < 256)) bytes
 
 -- what the device holds
 pub record IsSizedState (s : State) : Type 0 where

@@ -45,9 +45,11 @@ pub fn slots_by_example()
         ∷ load 3 16 0 (183 ∷ 0 ∷ 0 ∷ 0 ∷ 7 ∷ 0 ∷ 0 ∷ 0 ∷ [])
         ∷ load 3 16 0 (183 ∷ 0 ∷ 0 ∷ 0 ∷ 7 ∷ 0 ∷ 0 ∷ 0 ∷ [])
         ∷ Command.Deactivate 3 ∷ Command.Activate 3 ∷ Command.Unload 3 ∷ [])
-        ≡ Status.Ok ∷ Status.PieceOverlap ∷ Status.SizeDiffers ∷ Status.SlotPartial ∷ Status.Ok ∷ Status.SlotComplete ∷ Status.SlotInactive
+        ≡ Status.Ok ∷ Status.PieceOverlap ∷ Status.SizeDiffers ∷ Status.SlotPartial ∷ Status.Ok ∷ Status.SlotComplete
+        ∷ Status.SlotInactive
         ∷ Status.Ok ∷ Status.SlotActive ∷ [] }
-    ensures bad_program { statuses (load 0 8 0 (255 ∷ 0 ∷ 0 ∷ 0 ∷ 0 ∷ 0 ∷ 0 ∷ 0 ∷ []) ∷ Command.Activate 0 ∷ []) ≡ Status.Ok ∷ Status.BadProgram ∷ [] }
+    ensures bad_program { statuses (load 0 8 0 (255 ∷ 0 ∷ 0 ∷ 0 ∷ 0 ∷ 0 ∷ 0 ∷ 0 ∷ []) ∷ Command.Activate 0 ∷ [])
+        ≡ Status.Ok ∷ Status.BadProgram ∷ [] }
     ensures bad_place { results (load 0 16 0 ((183 ∷ 0 ∷ 0 ∷ 0 ∷ 1 ∷ 0 ∷ 0 ∷ 0 ∷ []) ++ (24 ∷ 0 ∷ 0 ∷ 0 ∷ 0 ∷ 0 ∷ 0 ∷ 0 ∷ []))
         ∷ Command.Activate 0 ∷ []) ≡ 0 ∷ 1 ∷ [] }
 {}
@@ -56,8 +58,10 @@ pub fn slots_by_example()
 pub fn executions_by_example()
     ensures exit { results (executes exits_with_7 2) ≡ 1 ∷ 0 ∷ 0 ∷ 7 ∷ [] }
     ensures spent { statuses (executes exits_with_7 1) ≡ Status.Ok ∷ Status.Ok ∷ Status.Ok ∷ Status.BudgetSpent ∷ [] }
-    ensures budget { statuses (executes exits_with_7 1001) ≡ Status.Ok ∷ Status.Ok ∷ Status.Ok ∷ Status.BudgetRange ∷ [] }
-    ensures fault { statuses (executes stores_past_the_end 10) ≡ Status.Ok ∷ Status.Ok ∷ Status.Ok ∷ Status.BadAccess ∷ [] }
+    ensures budget { statuses (executes exits_with_7 1001)
+        ≡ Status.Ok ∷ Status.Ok ∷ Status.Ok ∷ Status.BudgetRange ∷ [] }
+    ensures fault { statuses (executes stores_past_the_end 10)
+        ≡ Status.Ok ∷ Status.Ok ∷ Status.Ok ∷ Status.BadAccess ∷ [] }
     ensures place { results (executes stores_past_the_end 10) ≡ 1 ∷ 0 ∷ 0 ∷ 3 ∷ [] }
     ensures kept { shown_after (executes stores_past_the_end 10) 0 2 ≡ 85 ∷ 0 ∷ [] }
 {}
@@ -71,7 +75,8 @@ pub fn device_programs_by_example()
     ensures equal { results (executes_builtin (range 0 8 ∷ []) 66 0 0 8) ≡ 0 ∷ 1 ∷ 18446744073709551615 ∷ [] }
     ensures classes { results (executes_builtin two_ranges 67 259 5 8) ≡ 0 ∷ 1 ∷ 3 ∷ [] }
     ensures marks { shown_after (executes_builtin two_ranges 67 3 5 8) 8 8 ≡ 0 ∷ 0 ∷ 0 ∷ 1 ∷ 1 ∷ 1 ∷ 0 ∷ 0 ∷ [] }
-    ensures read_only { statuses (executes_builtin (range 0 8 ∷ read_only 8 8 ∷ []) 67 3 5 8) ≡ Status.Ok ∷ Status.Ok ∷ Status.BadAccess ∷ [] }
+    ensures read_only { statuses (executes_builtin (range 0 8 ∷ read_only 8 8 ∷ []) 67 3 5 8)
+        ≡ Status.Ok ∷ Status.Ok ∷ Status.BadAccess ∷ [] }
     ensures unchanged { shown_after (executes_builtin (range 0 8 ∷ read_only 8 8 ∷ []) 67 0 255 8) 8 2 ≡ 0 ∷ 0 ∷ [] }
     ensures behind { statuses (executes_builtin two_ranges 68 0 0 8) ≡ Status.Ok ∷ Status.Ok ∷ Status.NoSuchSlot ∷ [] }
 {}

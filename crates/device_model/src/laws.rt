@@ -10,8 +10,10 @@ ghost use Rattle.device_model.specs.Step.{DeviceStep};
 /// does.
 pub fn answers_are_sized()
     ensures opening { (c : _) → IsSizedState (opening c) }
-    ensures answer { (c : _) (s : _) (command : _) (answer : _) (next : _) → c.budget ≤ MAX_BUDGET → IsSizedState s → IsSizedCommand command
+    ensures answer { (c : _) (s : _) (command : _) (answer : _) (next : _) → c.budget ≤ MAX_BUDGET → IsSizedState s
+        → IsSizedCommand command
         → DeviceStep c s command answer next → IsSizedAnswer answer }
-    ensures next { (c : _) (s : _) (command : _) (answer : _) (next : _) → c.budget ≤ MAX_BUDGET → IsSizedState s → IsSizedCommand command
+    ensures next { (c : _) (s : _) (command : _) (answer : _) (next : _) → c.budget ≤ MAX_BUDGET → IsSizedState s
+        → IsSizedCommand command
         → DeviceStep c s command answer next → IsSizedState next }
 {}

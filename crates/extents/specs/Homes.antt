@@ -46,13 +46,15 @@ is_hole homes region = has_hole (home_of homes region.space).holes region.start 
 -- the bytes of a namespace between two places became a hole
 pub record IsSpaceTaken (old new : SpaceHome) (from to : ℕ) : Type 0 where
   pub bytes : new.bytes ≡ patched old.bytes from (replicate (to - from) None)
-  pub holes : (start len : ℕ) → has_hole new.holes start len ≡ (same_hole from (to - from) start len || has_hole old.holes start len)
+  pub holes : (start len : ℕ)
+      → has_hole new.holes start len ≡ (same_hole from (to - from) start len || has_hole old.holes start len)
 
 -- bytes filled a hole of a namespace
 pub record IsSpacePut (old new : SpaceHome) (from : ℕ) (filling : List ℕ) : Type 0 where
   pub fits : from + length filling ≤ length old.bytes
   pub bytes : new.bytes ≡ patched old.bytes from (map (λ byte. Some byte) filling)
-  pub holes : (start len : ℕ) → has_hole new.holes start len ≡ (has_hole old.holes start len && not (same_hole from (length filling) start len))
+  pub holes : (start len : ℕ)
+      → has_hole new.holes start len ≡ (has_hole old.holes start len && not (same_hole from (length filling) start len))
 
 -- the bytes of a namespace between two places are at home
 abbrev pub AreHere : SpaceHome → ℕ → ℕ → Type 0
@@ -74,11 +76,13 @@ zero_spaces unit sizes = map (λ size. record { bytes = replicate (size * unit) 
 -- the bytes of a region are out, the region is one more of those that are out, and all else is as before
 pub record IsTakenAway (old new : Homes) (region : Region) : Type 0 where
   pub out : (space : SpaceId) (offset : ℕ) → IsIn region space offset → known_at new space offset ≡ None
-  pub elsewhere : (space : SpaceId) (offset : ℕ) → (IsIn region space offset → ⊥) → known_at new space offset ≡ known_at old space offset
+  pub elsewhere : (space : SpaceId) (offset : ℕ) → (IsIn region space offset → ⊥)
+      → known_at new space offset ≡ known_at old space offset
   pub holes : (other : Region) → is_hole new other ≡ (same_region region other || is_hole old other)
 
 -- the bytes are those of a region, which is no longer out, and all else is as before
 pub record IsBroughtBack (old new : Homes) (region : Region) (bytes : List ℕ) : Type 0 where
   pub back : (k : ℕ) → k < region.len → known_at new region.space (region.start + k) ≡ slice_get bytes k
-  pub elsewhere : (space : SpaceId) (offset : ℕ) → (IsIn region space offset → ⊥) → known_at new space offset ≡ known_at old space offset
+  pub elsewhere : (space : SpaceId) (offset : ℕ) → (IsIn region space offset → ⊥)
+      → known_at new space offset ≡ known_at old space offset
   pub holes : (other : Region) → is_hole new other ≡ (is_hole old other && not (same_region region other))

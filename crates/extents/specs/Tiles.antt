@@ -102,4 +102,6 @@ pub record IsTakenOut (old new : List (ℕ × Extent)) (from to : ℕ) : Type 0 
   pub tiles : AreTiles 0 new
   pub size : length (all_shown new) ≡ length (all_shown old)
   pub shown : all_shown new ≡ patched (all_shown old) from (replicate (to - from) None)
-  pub holes : (start len : ℕ) → has_hole (all_holes new) start len ≡ (same_hole from (to - from) start len || has_hole (all_holes old) start len)
+  pub holes : (start len : ℕ)
+      → has_hole (all_holes new) start len
+      ≡ (same_hole from (to - from) start len || has_hole (all_holes old) start len)

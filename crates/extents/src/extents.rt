@@ -48,7 +48,8 @@ fn zero_spaces(alloc: Global, sizes: &[u32], unit: u32) -> Result<Vec<Space>, No
 
 // The namespace of a number, where there is one.
 fn under(all: &[Space], number: u32) -> Option<&Space>
-    ensures { MatchOption result ((at : ℕ) → slice_index_or (home_under all.now number).bytes at None ≡ None) (λ space. space.now ≡ home_under all.now number) }
+    ensures { MatchOption result ((at : ℕ) → slice_index_or (home_under all.now number).bytes at None ≡ None)
+        (λ space. space.now ≡ home_under all.now number) }
 {
     let index = number.checked_sub(1)?;
     all.get(index as usize)
@@ -64,8 +65,10 @@ fn take_under(
 ) -> Result<Bytes, NoMemory>
     requires order { from < to }
     requires home { AreHere (home_under all.old.items number) from to }
-    ensures bytes { IfOk result (λ bytes. map (λ byte. Some byte) bytes.items ≡ piece (home_under all.old.items number).bytes from (to - from)) }
-    ensures taken { OnOk result (IsSpaceTaken (home_under all.old.items number) (home_under all.new.items number) from to) }
+    ensures bytes { IfOk result
+        (λ bytes. map (λ byte. Some byte) bytes.items ≡ piece (home_under all.old.items number).bytes from (to - from)) }
+    ensures taken { OnOk result
+        (IsSpaceTaken (home_under all.old.items number) (home_under all.new.items number) from to) }
     ensures others { (m : ℕ) → (m ≡ number → ⊥) → home_under all.new.items m ≡ home_under all.old.items m }
     ensures unchanged { OnErr result (all.new.items ≡ all.old.items) }
 {
@@ -84,7 +87,9 @@ fn put_under(all: &mut Vec<Space>, number: u32, from: u64, bytes: Bytes)
 impl Extents {
     /// All bytes of the configured namespaces, each 0 and at home.
     pub fn new(alloc: Global, config: &Config) -> Result<Extents, NoMemory>
-        ensures zero { IfOk result (λ e. (space : SpaceId) (offset : ℕ) → known_at e space offset ≡ slice_get (bytes_of (all_zero config.now) space) offset) }
+        ensures zero { IfOk result
+            (λ e. (space : SpaceId) (offset : ℕ)
+            → known_at e space offset ≡ slice_get (bytes_of (all_zero config.now) space) offset) }
         ensures whole { IfOk result (λ e. (region : Region) → is_hole e region ≡ false) }
     {
         let nvm = zero_spaces(alloc, config.nvm(), config.block())?;
@@ -94,7 +99,8 @@ impl Extents {
 
     // The namespace, where there is one.
     fn space(&self, space: SpaceId) -> Option<&Space>
-        ensures { MatchOption result ((at : ℕ) → known_at self.now space at ≡ None) (λ found. found.now ≡ home_of self.now space) }
+        ensures { MatchOption result ((at : ℕ) → known_at self.now space at ≡ None)
+            (λ found. found.now ≡ home_of self.now space) }
     {
         match space {
             SpaceId::Nvm(n) => under(&self.nvm, n),
@@ -113,7 +119,8 @@ impl Extents {
     fn take_of(&mut self, space: SpaceId, from: u64, to: u64) -> Result<Bytes, NoMemory>
         requires order { from < to }
         requires home { AreHere (home_of self.old space) from to }
-        ensures bytes { IfOk result (λ bytes. map (λ byte. Some byte) bytes.items ≡ piece (home_of self.old space).bytes from (to - from)) }
+        ensures bytes { IfOk result
+            (λ bytes. map (λ byte. Some byte) bytes.items ≡ piece (home_of self.old space).bytes from (to - from)) }
         ensures taken { OnOk result (IsSpaceTaken (home_of self.old space) (home_of self.new space) from to) }
         ensures others { (other : SpaceId) → (other ≡ space → ⊥) → home_of self.new other ≡ home_of self.old other }
         ensures unchanged { OnErr result (self.new ≡ self.old) }

@@ -54,7 +54,8 @@ impl Space {
     pub(crate) fn take(&mut self, alloc: Global, from: u64, to: u64) -> Result<Bytes, NoMemory>
         requires order { from < to }
         requires home { AreHere self.old from to }
-        ensures bytes { IfOk result (λ bytes. map (λ byte. Some byte) bytes.items ≡ piece self.old.bytes from (to - from)) }
+        ensures bytes { IfOk result
+            (λ bytes. map (λ byte. Some byte) bytes.items ≡ piece self.old.bytes from (to - from)) }
         ensures taken { OnOk result (IsSpaceTaken self.old self.new from to) }
         ensures unchanged { OnErr result (self.new ≡ self.old) }
     {
@@ -83,7 +84,8 @@ impl Space {
         requires order { from ≤ to }
         requires home { AreHere self.now from to }
         requires room { to - from ≤ out.old.spare }
-        ensures bytes { map (λ byte. Some byte) out.new.items ≡ map (λ byte. Some byte) out.old.items ++ piece self.now.bytes from (to - from) }
+        ensures bytes { map (λ byte. Some byte) out.new.items
+            ≡ map (λ byte. Some byte) out.old.items ++ piece self.now.bytes from (to - from) }
         ensures spare { out.new.spare + (to - from) ≡ out.old.spare }
     {
         append_between(&self.tiles, from, to, out);

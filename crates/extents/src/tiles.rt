@@ -91,7 +91,8 @@ pub(crate) fn append_between(tiles: &BTreeMap<u64, Extent>, from: u64, to: u64, 
     requires order { from ≤ to }
     requires home { AreHomeBytes tiles.now.entries from to }
     requires room { to - from ≤ out.old.spare }
-    ensures bytes { map (λ byte. Some byte) out.new.items ≡ map (λ byte. Some byte) out.old.items ++ piece (all_shown tiles.now.entries) from (to - from) }
+    ensures bytes { map (λ byte. Some byte) out.new.items
+        ≡ map (λ byte. Some byte) out.old.items ++ piece (all_shown tiles.now.entries) from (to - from) }
     ensures spare { out.new.spare + (to - from) ≡ out.old.spare }
 {
     let mut at = from;
@@ -259,7 +260,8 @@ pub(crate) fn put_back(tiles: &mut BTreeMap<u64, Extent>, from: u64, bytes: Byte
     ensures fits { from + length bytes.items ≤ length (all_shown tiles.old.entries) }
     ensures tiles { AreTiles 0 tiles.new.entries }
     ensures size { length (all_shown tiles.new.entries) ≡ length (all_shown tiles.old.entries) }
-    ensures shown { all_shown tiles.new.entries ≡ patched (all_shown tiles.old.entries) from (map (λ byte. Some byte) bytes.items) }
+    ensures shown { all_shown tiles.new.entries
+        ≡ patched (all_shown tiles.old.entries) from (map (λ byte. Some byte) bytes.items) }
     ensures holes { (start len : ℕ) → has_hole (all_holes tiles.new.entries) start len
         ≡ (has_hole (all_holes tiles.old.entries) start len && not (same_hole from (length bytes.items) start len)) }
 {

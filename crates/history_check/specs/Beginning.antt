@@ -56,7 +56,8 @@ pub record MayComeNext (c : Configuration) (plan : List Phase) (entries : List E
   pub sent : Contains (sends_of plan) next.sent
   pub new : Contains (sents_of entries) next.sent → ⊥
   pub ready : All (λ (first : Sent). TakenBefore first next.sent → Contains (sents_of entries) first) (sends_of plan)
-  pub step : DeviceStep c (last_state c entries) next.sent.command next.answer (after_entry c (last_state c entries) next)
+  pub step : DeviceStep c (last_state c entries) next.sent.command next.answer
+      (after_entry c (last_state c entries) next)
   pub follows : MayFollow entries next
   pub names : HasWithdrawn next → NamesNew plan (entries ++ next ∷ []) next.sent
 

@@ -9,4 +9,5 @@ pub record IsNamed (line : List ℕ) (host ordinal : ℕ) : Type 0 where
   pub few : number < 2 ^ 64
   pub hosts : host < 2 ^ 64
   pub ordinals : ordinal < 2 ^ 64
-  pub begins : line ≡ lettered (codes "#") number ++ 32 ∷ (lettered (codes "h") host ++ 32 ∷ (lettered (codes "n") ordinal ++ 32 ∷ rest))
+  pub begins : line ≡ lettered (codes "#") number ++ 32
+      ∷ (lettered (codes "h") host ++ 32 ∷ (lettered (codes "n") ordinal ++ 32 ∷ rest))

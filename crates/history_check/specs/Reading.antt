@@ -23,13 +23,15 @@ pub record BeginsWithEntries (c : Configuration) (plan : List Phase) (text rest 
 
 -- all entries were read, or the first bad line is found, whatever is shown
 abbrev pub HasReadEntries : Configuration → List Phase → List ℕ → Checker → Reading → Type 0
-HasReadEntries c plan text checker (reading.Left rest) = BeginsWithEntries c plan text rest.now (length (sends_of plan)) checker
+HasReadEntries c plan text checker (reading.Left rest) =
+    BeginsWithEntries c plan text rest.now (length (sends_of plan)) checker
 HasReadEntries c plan text checker (reading.Breaks line) = (shows : List Show) → IsFirstBad c plan shows text line
 
 -- a text does not begin with this line, which a newline ends
 abbrev pub MissesLine : List ℕ → List ℕ → Type 0
 MissesLine line text =
-    (lacks 10 text ≡ true) ⊎ ((front : List ℕ) × (behind : List ℕ) × (text ≡ front ++ 10 ∷ behind) × (lacks 10 front ≡ true) × (line ≡ front ++ 10 ∷ [] → ⊥))
+    (lacks 10 text ≡ true)
+    ⊎ ((front : List ℕ) × (behind : List ℕ) × (text ≡ front ++ 10 ∷ behind) × (lacks 10 front ≡ true) × (line ≡ front ++ 10 ∷ [] → ⊥))
 
 -- the text begins with the lines of some shows, and not with that of the next
 pub record BreaksAtShow (contents : Contents) (shows : List Show) (first : ℕ) (text : List ℕ) (line : ℕ) : Type 0 where

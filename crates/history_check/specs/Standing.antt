@@ -52,7 +52,8 @@ IsTellingOf checker place k answer line =
 
 -- the command at a place takes memory, and the line tells that it found none
 pub record TellsNoMemory (checker : Checker) (place k : ℕ) (line : List ℕ) : Type 0 where
-  pub takes : (s : Sent) → slice_get (sends_in checker.awaiting.table) place ≡ Some s → IsTrue (takes_memory checker.device.config checker.device.state s.command)
+  pub takes : (s : Sent) → slice_get (sends_in checker.awaiting.table) place ≡ Some s
+      → IsTrue (takes_memory checker.device.config checker.device.state s.command)
   pub told : IsTellingOf checker place k (only_status status.NoMemory) line
 
 -- a command at one place names that at another, which is not over
@@ -104,7 +105,8 @@ IsNextTold None old place k line new = IsReplyTold old place k line new
 
 -- the line tells nothing that its entry can be
 abbrev pub IsNextRefused : Option ℕ → Checker → ℕ → ℕ → List ℕ → Type 0
-IsNextRefused (Some withdrawn) old place k line = place ≡ withdrawn → IsTellingOf old place k (only_status status.Aborted) line → ⊥
+IsNextRefused (Some withdrawn) old place k line =
+    place ≡ withdrawn → IsTellingOf old place k (only_status status.Aborted) line → ⊥
 IsNextRefused None old place k line = IsReplyRefused old place k line
 
 -- an entry that may come next has this line, and the checker has gone on
@@ -116,7 +118,8 @@ pub record IsAccepted (c : Configuration) (plan : List Phase) (entries : List En
 
 -- the line is that of no entry that may come next
 abbrev pub FitsNoEntry : Configuration → List Phase → List Entry → List ℕ → Type 0
-FitsNoEntry c plan entries line = (next : Entry) → MayComeNext c plan entries next → entry_text (length entries + 1) next ≡ line ++ 10 ∷ [] → ⊥
+FitsNoEntry c plan entries line =
+    (next : Entry) → MayComeNext c plan entries next → entry_text (length entries + 1) next ≡ line ++ 10 ∷ [] → ⊥
 
 -- what the checker says of a line
 abbrev pub Judges : Configuration → List Phase → List Entry → List ℕ → Checker → Bool → Type 0

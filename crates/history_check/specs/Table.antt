@@ -44,7 +44,8 @@ pub record IsAt (sends : List Sent) (h n place : ℕ) : Type 0 where
 
 -- the places of commands by their hosts and ordinals
 pub record HasPlaces (sends : List Sent) (places : BTreeMap (ℕ × ℕ) ℕ) : Type 0 where
-  pub right : (host ordinal place : ℕ) → get pair_cmp places (host, ordinal) ≡ Some place → IsAt sends host ordinal place
+  pub right : (host ordinal place : ℕ) → get pair_cmp places (host, ordinal) ≡ Some place
+      → IsAt sends host ordinal place
   pub each : (place : ℕ) (s : Sent) → slice_get sends place ≡ Some s → IsSome (get pair_cmp places (s.host, s.ordinal))
 
 -- how many commands each host sends
@@ -61,7 +62,8 @@ pub record IsTable (table : Table) : Type 0 where
 abbrev pub going_on : Table → Sender → List Item → List Sent
 going_on table sender items =
     sends_in table
-    ++ sends_of_items sender.host sender.phase (next_ordinal sender.host (sends_in table)) (waiting_of sender.outstanding.items) (drop sender.begin table.takes.items) items
+    ++ sends_of_items sender.host sender.phase (next_ordinal sender.host (sends_in table))
+    (waiting_of sender.outstanding.items) (drop sender.begin table.takes.items) items
 
 -- how many commands an item sends
 abbrev pub is_sent : Item → ℕ

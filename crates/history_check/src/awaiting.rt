@@ -69,7 +69,8 @@ impl Awaiting {
         ensures kept { IsKept self.new }
         ensures same { (self.new.table ≡ self.old.table) × (self.new.over.items ≡ self.old.over.items) }
         ensures bound { self.new.front ≤ length self.old.over.items }
-        ensures stops { self.new.front < length self.old.over.items → slice_get self.old.over.items self.new.front ≡ Some false }
+        ensures stops { self.new.front < length self.old.over.items
+            → slice_get self.old.over.items self.new.front ≡ Some false }
     {
         let mut front = self.front;
         while front < self.over.len() && self.over[front] {
@@ -115,8 +116,10 @@ impl Awaiting {
         requires within { place < length (sends_in self.old.table) }
         ensures kept { IsKept self.new }
         ensures same { (self.new.table ≡ self.old.table) × (self.new.over.items ≡ self.old.over.items) }
-        ensures yes { IfOk result (λ over. IsTrue over → AreTakenOver (sends_in self.old.table) self.old.over.items place) }
-        ensures no { IfOk result (λ over. IsFalse over → AreTakenOver (sends_in self.old.table) self.old.over.items place → ⊥) }
+        ensures yes { IfOk result
+            (λ over. IsTrue over → AreTakenOver (sends_in self.old.table) self.old.over.items place) }
+        ensures no { IfOk result
+            (λ over. IsFalse over → AreTakenOver (sends_in self.old.table) self.old.over.items place → ⊥) }
     {
         let awaited = self.table.get(place);
         let (host, begin, end) = (awaited.host, awaited.begin, awaited.end);
@@ -149,8 +152,10 @@ impl Awaiting {
         requires within { place < length (sends_in self.old.table) }
         ensures kept { IsKept self.new }
         ensures same { (self.new.table ≡ self.old.table) × (self.new.over.items ≡ self.old.over.items) }
-        ensures yes { IfOk result (λ ready. IsTrue ready → IsReady (sends_in self.old.table) self.old.over.items place) }
-        ensures no { IfOk result (λ ready. IsFalse ready → IsReady (sends_in self.old.table) self.old.over.items place → ⊥) }
+        ensures yes { IfOk result
+            (λ ready. IsTrue ready → IsReady (sends_in self.old.table) self.old.over.items place) }
+        ensures no { IfOk result
+            (λ ready. IsFalse ready → IsReady (sends_in self.old.table) self.old.over.items place → ⊥) }
     {
         if self.is_over(place) || !self.are_earlier_over(place) {
             return Ok(false);

@@ -44,8 +44,12 @@ fn is_entry(
     bytes: &[u8],
     line: &[u8],
 ) -> Result<bool, NoMemory>
-    ensures yes { IfOk result (λ told. IsTrue told → line_of_entry k sent.now.host sent.now.ordinal sent.now.cid (word_of sent.now.command.value) status value bytes.now ≡ line.now ++ 10 ∷ []) }
-    ensures no { IfOk result (λ told. IsFalse told → line_of_entry k sent.now.host sent.now.ordinal sent.now.cid (word_of sent.now.command.value) status value bytes.now ≡ line.now ++ 10 ∷ [] → ⊥) }
+    ensures yes { IfOk result
+        (λ told. IsTrue told
+        → line_of_entry k sent.now.host sent.now.ordinal sent.now.cid (word_of sent.now.command.value) status value bytes.now ≡ line.now ++ 10 ∷ []) }
+    ensures no { IfOk result
+        (λ told. IsFalse told
+        → line_of_entry k sent.now.host sent.now.ordinal sent.now.cid (word_of sent.now.command.value) status value bytes.now ≡ line.now ++ 10 ∷ [] → ⊥) }
 {
     buffer.clear();
     push_entry(
@@ -95,9 +99,11 @@ impl Checker {
     fn tells(&mut self, k: u32, place: usize, status: Status, line: &[u8]) -> Result<bool, NoMemory>
         requires kept { IsKept self.old.awaiting }
         requires within { place < length (sends_in self.old.awaiting.table) }
-        ensures same { (self.new.device ≡ self.old.device) × (self.new.awaiting ≡ self.old.awaiting) × (self.new.withdrawn ≡ self.old.withdrawn) }
+        ensures same { (self.new.device ≡ self.old.device) × (self.new.awaiting ≡ self.old.awaiting)
+            × (self.new.withdrawn ≡ self.old.withdrawn) }
         ensures yes { IfOk result (λ told. IsTrue told → IsTellingOf self.old place k (only_status status) line.now) }
-        ensures no { IfOk result (λ told. IsFalse told → IsTellingOf self.old place k (only_status status) line.now → ⊥) }
+        ensures no { IfOk result
+            (λ told. IsFalse told → IsTellingOf self.old place k (only_status status) line.now → ⊥) }
     {
         let sent = self.awaiting.table.get(place);
         is_entry(&mut self.buffer, k, sent, status, 0, &[], line)
@@ -107,7 +113,8 @@ impl Checker {
     fn tells_no_memory(&mut self, k: u32, place: usize, line: &[u8]) -> Result<bool, NoMemory>
         requires kept { IsKept self.old.awaiting }
         requires within { place < length (sends_in self.old.awaiting.table) }
-        ensures same { (self.new.device ≡ self.old.device) × (self.new.awaiting ≡ self.old.awaiting) × (self.new.withdrawn ≡ self.old.withdrawn) }
+        ensures same { (self.new.device ≡ self.old.device) × (self.new.awaiting ≡ self.old.awaiting)
+            × (self.new.withdrawn ≡ self.old.withdrawn) }
         ensures yes { IfOk result (λ told. IsTrue told → TellsNoMemory self.old place k line.now) }
         ensures no { IfOk result (λ told. IsFalse told → TellsNoMemory self.old place k line.now → ⊥) }
     {
@@ -142,8 +149,13 @@ impl Checker {
         requires kept { IsKept self.old.awaiting }
         requires within { place < length (sends_in self.old.awaiting.table) }
         ensures same { (self.new.device ≡ self.old.device) × (self.new.awaiting ≡ self.old.awaiting) }
-        ensures yes { IfOk result (λ told. IsTrue told → IsSomeAnd self.new.withdrawn (λ named. TellsWithdrawal self.old place named k line.now)) }
-        ensures no { IfOk result (λ told. IsFalse told → (self.new.withdrawn ≡ self.old.withdrawn) × ((named : ℕ) → TellsWithdrawal self.old place named k line.now → ⊥)) }
+        ensures yes { IfOk result
+            (λ told. IsTrue told
+            → IsSomeAnd self.new.withdrawn (λ named. TellsWithdrawal self.old place named k line.now)) }
+        ensures no { IfOk result
+            (λ told. IsFalse told
+            → (self.new.withdrawn ≡ self.old.withdrawn)
+            × ((named : ℕ) → TellsWithdrawal self.old place named k line.now → ⊥)) }
     {
         let Some(named) = self.named_left(place) else {
             return Ok(false);
@@ -161,7 +173,8 @@ impl Checker {
         requires within { place < length (sends_in self.old.awaiting.table) }
         ensures same { (self.new.awaiting ≡ self.old.awaiting) × (self.new.withdrawn ≡ self.old.withdrawn) }
         ensures yes { IfOk result (λ told. IsTrue told → TellsAnswer self.old place k line.now self.new.device) }
-        ensures no { IfOk result (λ told. IsFalse told → (after : Standing) → TellsAnswer self.old place k line.now after → ⊥) }
+        ensures no { IfOk result
+            (λ told. IsFalse told → (after : Standing) → TellsAnswer self.old place k line.now after → ⊥) }
     {
         let sent = self.awaiting.table.get(place);
         let reply = self.device.step(&sent.command);
@@ -205,9 +218,14 @@ impl Checker {
     ) -> Result<bool, NoMemory>
         requires kept { IsKept self.old.awaiting }
         requires within { place < length (sends_in self.old.awaiting.table) }
-        ensures same { (self.new.device ≡ self.old.device) × (self.new.awaiting ≡ self.old.awaiting) × (self.new.withdrawn ≡ None) }
-        ensures yes { IfOk result (λ told. IsTrue told → (place ≡ withdrawn) × IsTellingOf self.old place k (only_status Status.Aborted) line.now) }
-        ensures no { IfOk result (λ told. IsFalse told → place ≡ withdrawn → IsTellingOf self.old place k (only_status Status.Aborted) line.now → ⊥) }
+        ensures same { (self.new.device ≡ self.old.device) × (self.new.awaiting ≡ self.old.awaiting)
+            × (self.new.withdrawn ≡ None) }
+        ensures yes { IfOk result
+            (λ told. IsTrue told
+            → (place ≡ withdrawn) × IsTellingOf self.old place k (only_status Status.Aborted) line.now) }
+        ensures no { IfOk result
+            (λ told. IsFalse told → place ≡ withdrawn
+            → IsTellingOf self.old place k (only_status Status.Aborted) line.now → ⊥) }
     {
         self.withdrawn = None;
         Ok(place == withdrawn && self.tells(k, place, Status::Aborted, line)?)
@@ -217,7 +235,8 @@ impl Checker {
     fn place_in(&self, line: &[u8]) -> Option<usize>
         requires { IsKept self.now.awaiting }
         ensures some { IfSome result (λ place. place < length (sends_in self.now.awaiting.table)) }
-        ensures named { (host ordinal : ℕ) → IsNamed line.now host ordinal → IsPlaceOf (sends_in self.now.awaiting.table) host ordinal result }
+        ensures named { (host ordinal : ℕ) → IsNamed line.now host ordinal
+            → IsPlaceOf (sends_in self.now.awaiting.table) host ordinal result }
     {
         let (host, ordinal) = name_in(line)?;
         self.awaiting.table.find(host, ordinal)
@@ -228,7 +247,8 @@ impl Checker {
         requires kept { IsKept self.old.awaiting }
         requires within { place < length (sends_in self.old.awaiting.table) }
         ensures same { self.new.awaiting ≡ self.old.awaiting }
-        ensures yes { IfOk result (λ told. IsTrue told → IsNextTold self.old.withdrawn self.old place k line.now self.new) }
+        ensures yes { IfOk result
+            (λ told. IsTrue told → IsNextTold self.old.withdrawn self.old place k line.now self.new) }
         ensures no { IfOk result (λ told. IsFalse told → IsNextRefused self.old.withdrawn self.old place k line.now) }
     {
         match self.withdrawn {
@@ -240,7 +260,8 @@ impl Checker {
     /// Whether line `k` is that of an entry with which a legal history goes on. Then its command is over.
     pub fn accepts(&mut self, k: u32, line: &[u8]) -> Result<bool, NoMemory>
         requires { IsKept self.old.awaiting }
-        ensures { (c : _) (plan : _) (entries : List Entry) → IsSizedPlan c plan → Stands c plan entries self.old → k ≡ length entries + 1
+        ensures { (c : _) (plan : _) (entries : List Entry) → IsSizedPlan c plan → Stands c plan entries self.old
+            → k ≡ length entries + 1
             → IfOk result (λ accepted. Judges c plan entries line.now self.new accepted) }
     {
         let Some(place) = self.place_in(line) else {
@@ -260,8 +281,13 @@ impl Checker {
     pub fn shows(&mut self, show: &Show, line: &[u8]) -> Result<bool, NoMemory>
         requires { show.now.range.start + show.now.range.len ≤ unwrap_or (size_of self.old.device.config show.now.range.space) 0 }
         ensures same { self.new.device ≡ self.old.device }
-        ensures yes { IfOk result (λ shown. IsTrue shown → shown_text show.now (bytes_in self.old.device.state.contents show.now.range) ≡ line.now ++ 10 ∷ []) }
-        ensures no { IfOk result (λ shown. IsFalse shown → shown_text show.now (bytes_in self.old.device.state.contents show.now.range) ≡ line.now ++ 10 ∷ [] → ⊥) }
+        ensures yes { IfOk result
+            (λ shown. IsTrue shown
+            → shown_text show.now (bytes_in self.old.device.state.contents show.now.range) ≡ line.now ++ 10 ∷ []) }
+        ensures no { IfOk result
+            (λ shown. IsFalse shown
+            → shown_text show.now (bytes_in self.old.device.state.contents show.now.range) ≡ line.now ++ 10 ∷ []
+            → ⊥) }
     {
         self.buffer.clear();
         push_show(&mut self.buffer, show, self.device.slice(&show.range))?;

@@ -20,14 +20,17 @@ ghost use Rattle.history_check.specs.Verdict.{AreShown, IsShowInside};
 /// What is read of a script can be checked: its numbers have 64 bits and its data are bytes, and its shows that
 /// lie inside their namespaces do so as well.
 pub fn scripts_can_be_checked()
-    ensures plan { (script : Script) (plan : _) → AreSized (lines_of script) → KeepsOrderAndLimits script → sends_of plan ≡ sends_of script.phases
+    ensures plan { (script : Script) (plan : _) → AreSized (lines_of script) → KeepsOrderAndLimits script
+        → sends_of plan ≡ sends_of script.phases
         → length (sends_of plan) < 2 ^ 64 → IsSizedPlan script.config plan }
-    ensures shows { (script : Script) → AreSized (lines_of script) → All (IsShowInside script.config) script.shows → AreShown script.config script.shows }
+    ensures shows { (script : Script) → AreSized (lines_of script) → All (IsShowInside script.config) script.shows
+        → AreShown script.config script.shows }
 {}
 
 /// The line of a show is a line: one newline ends it, and none stands before.
 pub fn shown_lines_are_lines()
-    ensures { (show : Show) (bytes : List ℕ) → IsSizedLine (show_line show) → AreBytes bytes → IsEndedLine (shown_text show bytes) }
+    ensures { (show : Show) (bytes : List ℕ) → IsSizedLine (show_line show) → AreBytes bytes
+        → IsEndedLine (shown_text show bytes) }
 {}
 
 /// Entries begin a legal history of a plan exactly where they are consistent with it: whatever a device has
@@ -35,16 +38,21 @@ pub fn shown_lines_are_lines()
 /// all are consistent, and where all commands have an entry they are a legal history.
 pub fn consistent_entries_go_on()
     ensures none { (c : _) (plan : _) → IsBeginning c plan [] }
-    ensures all { (c : _) (plan : _) (entries : List Entry) → IsBeginning c plan entries → length entries ≡ length (sends_of plan) → IsLegal c plan entries }
-    ensures goes_on { (c : _) (plan : _) (entries : List Entry) → IsBeginning c plan entries → (more : List Entry) × IsLegal c plan (entries ++ more) }
-    ensures begins { (c : _) (plan : _) (entries more : List Entry) → IsLegal c plan (entries ++ more) → IsBeginning c plan entries }
+    ensures all { (c : _) (plan : _) (entries : List Entry) → IsBeginning c plan entries
+        → length entries ≡ length (sends_of plan) → IsLegal c plan entries }
+    ensures goes_on { (c : _) (plan : _) (entries : List Entry) → IsBeginning c plan entries
+        → (more : List Entry) × IsLegal c plan (entries ++ more) }
+    ensures begins { (c : _) (plan : _) (entries more : List Entry) → IsLegal c plan (entries ++ more)
+        → IsBeginning c plan entries }
 {}
 
 /// One more entry is consistent behind others exactly where these are consistent and it may come next. So the
 /// consistent entries are those that a device tells one by one, each as its turn comes.
 pub fn entries_come_one_by_one()
-    ensures comes { (c : _) (plan : _) (entries : List Entry) (next : _) → IsBeginning c plan entries → MayComeNext c plan entries next → IsBeginning c plan (entries ++ next ∷ []) }
-    ensures came { (c : _) (plan : _) (entries : List Entry) (next : _) → IsBeginning c plan (entries ++ next ∷ []) → IsBeginning c plan entries × MayComeNext c plan entries next }
+    ensures comes { (c : _) (plan : _) (entries : List Entry) (next : _) → IsBeginning c plan entries
+        → MayComeNext c plan entries next → IsBeginning c plan (entries ++ next ∷ []) }
+    ensures came { (c : _) (plan : _) (entries : List Entry) (next : _) → IsBeginning c plan (entries ++ next ∷ [])
+        → IsBeginning c plan entries × MayComeNext c plan entries next }
 {}
 
 /// The lines of a text tell the entries: where the text of a legal history begins with that of consistent entries
@@ -52,21 +60,26 @@ pub fn entries_come_one_by_one()
 /// only one whose text begins with its entries, so its shows are fixed by them.
 pub fn lines_are_entries()
     ensures next { (c : _) (plan : _) (shows : _) (entries : List Entry) (line rest : List ℕ) (history : List Entry)
-        → IsSizedPlan c plan → IsBeginning c plan entries → length entries < length (sends_of plan) → lacks 10 line ≡ true → IsLegal c plan history
+        → IsSizedPlan c plan → IsBeginning c plan entries → length entries < length (sends_of plan)
+        → lacks 10 line ≡ true → IsLegal c plan history
         → history_text c shows history ≡ entries_text 1 entries ++ (line ++ 10 ∷ rest)
-        → (next : Entry) × IsBeginning c plan (entries ++ next ∷ []) × (entry_text (length entries + 1) next ≡ line ++ 10 ∷ []) }
+        → (next : Entry) × IsBeginning c plan (entries ++ next ∷ [])
+        × (entry_text (length entries + 1) next ≡ line ++ 10 ∷ []) }
     ensures whole { (c : _) (plan : _) (shows : _) (one other : List Entry) (rest : List ℕ)
-        → IsSizedPlan c plan → IsLegal c plan one → IsLegal c plan other → history_text c shows other ≡ entries_text 1 one ++ rest → other ≡ one }
+        → IsSizedPlan c plan → IsLegal c plan one → IsLegal c plan other
+        → history_text c shows other ≡ entries_text 1 one ++ rest → other ≡ one }
 {}
 
 /// Behind lines with which the text of a legal history begins, the first bad line is the next one where it is a
 /// line with which none goes on, or none at all or a rest that no newline ends and the text is none of a legal history.
 pub fn bad_line_stands_behind_good_ones()
     ensures line { (c : _) (plan : _) (shows : _) (lines : List (List ℕ)) (line rest : List ℕ)
-        → All IsEndedLine lines → BeginLegally c plan shows lines → IsEndedLine line → (BeginLegally c plan shows (lines ++ line ∷ []) → ⊥)
+        → All IsEndedLine lines → BeginLegally c plan shows lines → IsEndedLine line
+        → (BeginLegally c plan shows (lines ++ line ∷ []) → ⊥)
         → IsFirstBad c plan shows (concat lines ++ (line ++ rest)) (length lines + 1) }
     ensures rest { (c : _) (plan : _) (shows : _) (lines : List (List ℕ)) (rest : List ℕ)
-        → All IsEndedLine lines → BeginLegally c plan shows lines → lacks 10 rest ≡ true → (IsLegalText c plan shows (concat lines ++ rest) → ⊥)
+        → All IsEndedLine lines → BeginLegally c plan shows lines → lacks 10 rest ≡ true
+        → (IsLegalText c plan shows (concat lines ++ rest) → ⊥)
         → IsFirstBad c plan shows (concat lines ++ rest) (length lines + 1) }
 {}
 
@@ -75,15 +88,18 @@ pub fn bad_line_stands_behind_good_ones()
 /// newline ends, or none at all.
 pub fn bad_line_is_that_of_no_next_entry()
     ensures other { (c : _) (plan : _) (shows : _) (entries : List Entry) (line rest : List ℕ)
-        → IsSizedPlan c plan → IsBeginning c plan entries → length entries < length (sends_of plan) → lacks 10 line ≡ true
+        → IsSizedPlan c plan → IsBeginning c plan entries → length entries < length (sends_of plan)
+        → lacks 10 line ≡ true
         → ((next : _) → IsBeginning c plan (entries ++ next ∷ []) → entry_text (length entries + 1) next ≡ line ++ 10 ∷ [] → ⊥)
         → IsFirstBad c plan shows (entries_text 1 entries ++ (line ++ 10 ∷ rest)) (length entries + 1) }
     ensures missing { (c : _) (plan : _) (shows : _) (entries : List Entry) (rest : List ℕ)
-        → IsSizedPlan c plan → IsBeginning c plan entries → length entries < length (sends_of plan) → lacks 10 rest ≡ true
+        → IsSizedPlan c plan → IsBeginning c plan entries → length entries < length (sends_of plan)
+        → lacks 10 rest ≡ true
         → IsFirstBad c plan shows (entries_text 1 entries ++ rest) (length entries + 1) }
 {}
 
 /// A text has one first bad line at most.
 pub fn first_bad_line_is_one()
-    ensures { (c : _) (plan : _) (shows : _) (text : _) (one other : _) → IsFirstBad c plan shows text one → IsFirstBad c plan shows text other → one ≡ other }
+    ensures { (c : _) (plan : _) (shows : _) (text : _) (one other : _) → IsFirstBad c plan shows text one
+        → IsFirstBad c plan shows text other → one ≡ other }
 {}

@@ -7,7 +7,8 @@ use cp_text::{number, split_part};
 
 // The first field of a text, and what stands behind the space that ends it.
 fn next_field(text: &[u8]) -> Option<(&[u8], &[u8])>
-    ensures { (field rest : List ℕ) → lacks 32 field ≡ true → text.now ≡ field ++ 32 ∷ rest → IsSomeAnd result (λ cut. (cut.0.now ≡ field) × (cut.1.now ≡ rest)) }
+    ensures { (field rest : List ℕ) → lacks 32 field ≡ true → text.now ≡ field ++ 32 ∷ rest
+        → IsSomeAnd result (λ cut. (cut.0.now ≡ field) × (cut.1.now ≡ rest)) }
 {
     let (field, rest) = split_part(text, b' ');
     match rest {

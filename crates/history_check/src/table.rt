@@ -188,7 +188,8 @@ impl Table {
         requires table { IsTable self.old }
         requires few { length (sends_in self.old ++ sends_of_items part.now.host phase (next_ordinal part.now.host (sends_in self.old)) [] [] part.now.items) < 2 ^ 32 }
         ensures table { OnOk result (IsTable self.new) }
-        ensures sends { OnOk result (sends_in self.new ≡ sends_in self.old ++ sends_of_items part.now.host phase (next_ordinal part.now.host (sends_in self.old)) [] [] part.now.items) }
+        ensures sends { OnOk result
+            (sends_in self.new ≡ sends_in self.old ++ sends_of_items part.now.host phase (next_ordinal part.now.host (sends_in self.old)) [] [] part.now.items) }
     {
         let mut sender = Sender {
             host: part.host,

@@ -87,7 +87,8 @@ withdrawing = record { host = 1; ordinal = 2; cid = 2; phase = 1; command = with
 
 -- one host fills and withdraws the fill
 abbrev pub fill_and_withdraw : Arc Command Global → List Phase
-fill_and_withdraw shared = one_phase (part 1 (sending shared 1 fill ∷ sending shared 2 (withdraw 1) ∷ item.Take 1 ∷ item.Take 2 ∷ []) ∷ [])
+fill_and_withdraw shared =
+    one_phase (part 1 (sending shared 1 fill ∷ sending shared 2 (withdraw 1) ∷ item.Take 1 ∷ item.Take 2 ∷ []) ∷ [])
 
 -- a command that was answered without bytes
 abbrev pub entry_told : Sent → Status → ℕ → Entry

@@ -21,8 +21,10 @@ without cid outstanding = filter (λ other. not (other == cid)) outstanding
 abbrev pub KeepsEachQueue : ℕ → List ℕ → List Item → Type 0
 KeepsEachQueue depth outstanding [] = outstanding ≡ []
 KeepsEachQueue depth outstanding (item.Send cid command ∷ items) =
-    (in_queue (queue_of_cid cid) outstanding < depth) × (Contains outstanding cid → ⊥) × KeepsEachQueue depth (outstanding ++ cid ∷ []) items
-KeepsEachQueue depth outstanding (item.Take cid ∷ items) = Contains outstanding cid × KeepsEachQueue depth (without cid outstanding) items
+    (in_queue (queue_of_cid cid) outstanding < depth) × (Contains outstanding cid → ⊥)
+    × KeepsEachQueue depth (outstanding ++ cid ∷ []) items
+KeepsEachQueue depth outstanding (item.Take cid ∷ items) =
+    Contains outstanding cid × KeepsEachQueue depth (without cid outstanding) items
 
 -- a phase has a host, and each host's part keeps the rules of each of its queues
 pub record KeepEachQueue (depth : ℕ) (phase : Phase) : Type 0 where
@@ -35,7 +37,8 @@ abbrev pub KeepsQueue : ℕ → List ℕ → List Item → Type 0
 KeepsQueue depth outstanding [] = outstanding ≡ []
 KeepsQueue depth outstanding (item.Send cid command ∷ items) =
     (length outstanding < depth) × (Contains outstanding cid → ⊥) × KeepsQueue depth (outstanding ++ cid ∷ []) items
-KeepsQueue depth outstanding (item.Take cid ∷ items) = Contains outstanding cid × KeepsQueue depth (without cid outstanding) items
+KeepsQueue depth outstanding (item.Take cid ∷ items) =
+    Contains outstanding cid × KeepsQueue depth (without cid outstanding) items
 
 -- a phase has a host, and each host's part keeps the rules of its queue
 pub record KeepsQueues (depth : ℕ) (phase : Phase) : Type 0 where

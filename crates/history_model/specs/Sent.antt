@@ -68,7 +68,8 @@ sends_of plan = sends_of_phases 1 [] plan
 -- the first command has to be over before the second is sent: its host takes it before, or it belongs
 -- to an earlier phase
 abbrev pub TakenBefore : Sent → Sent → Type 0
-TakenBefore first second = (first.phase < second.phase) ⊎ ((first.host ≡ second.host) × Contains second.taken first.ordinal)
+TakenBefore first second =
+    (first.phase < second.phase) ⊎ ((first.host ≡ second.host) × Contains second.taken first.ordinal)
 
 -- an Abort names a command of its host
 abbrev pub Names : Sent → Sent → Type 0

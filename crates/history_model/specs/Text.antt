@@ -53,7 +53,9 @@ line_of_entry k host ordinal cid word status value bytes =
 
 -- the line of an entry, with its newline
 abbrev pub entry_text : ℕ → Entry → List ℕ
-entry_text k entry = line_of_entry k entry.sent.host entry.sent.ordinal entry.sent.cid (word_of entry.sent.command) entry.answer.status entry.answer.result entry.answer.bytes
+entry_text k entry =
+    line_of_entry k entry.sent.host entry.sent.ordinal entry.sent.cid
+    (word_of entry.sent.command) entry.answer.status entry.answer.result entry.answer.bytes
 
 -- the lines of entries, of which the first has this number
 abbrev pub entries_text : ℕ → List Entry → List ℕ

@@ -8,7 +8,8 @@ use Rattle.trail_model.specs.Pieces.{AllBytes, RegionBytes, gathered}
 
 -- whether a region has all bytes of another one
 abbrev pub holds : Region → Region → Bool
-holds region inner = same_space region.space inner.space && (nat_le region.start inner.start && nat_le (inner.start + inner.len) (region.start + region.len))
+holds region inner =
+    same_space region.space inner.space && (nat_le region.start inner.start && nat_le (inner.start + inner.len) (region.start + region.len))
 
 -- a region lies in one piece, which has its bytes, and no piece before that has a byte of it
 abbrev pub IsHeld : List RegionBytes → Region → Type 0

@@ -84,7 +84,8 @@ pub record IsWork (c : Configuration) (s : State) (w : Work) : Type 0 where
   pub passes : refusal_of c s w.command.value ≡ None
   pub moves : IsTrue (moves_bytes w.command.value)
   pub regions : piece_regions w.pieces.items ≡ carried_regions c (execution_of s w.command.value).ranges w.command.value
-  pub whole : AllByRecursion (λ (piece : RegionBytes). length piece.bytes ≡ piece.region.len) (region_bytes w.pieces.items)
+  pub whole : AllByRecursion (λ (piece : RegionBytes). length piece.bytes ≡ piece.region.len)
+      (region_bytes w.pieces.items)
   pub ranges : AllByRecursion IsRange (piece_regions w.pieces.items)
   pub no_windows : w.windows.items ≡ []
   pub no_reply : w.reply.items ≡ []
@@ -93,6 +94,8 @@ pub record IsWork (c : Configuration) (s : State) (w : Work) : Type 0 where
 
 -- the local effect of work, told and put into the pieces
 pub record IsWorkDone (c : Configuration) (s : State) (w : Work) (done : Worked) : Type 0 where
-  pub answer : answer_of done.reply ≡ (local_effect c (execution_of s w.command.value) (region_bytes w.pieces.items) w.command.value).answer
+  pub answer : answer_of done.reply
+      ≡ (local_effect c (execution_of s w.command.value) (region_bytes w.pieces.items) w.command.value).answer
   pub pieces : region_bytes done.pieces.items
-      ≡ pieces_after (local_effect c (execution_of s w.command.value) (region_bytes w.pieces.items) w.command.value) (region_bytes w.pieces.items)
+      ≡ pieces_after (local_effect c (execution_of s w.command.value) (region_bytes w.pieces.items) w.command.value)
+      (region_bytes w.pieces.items)

@@ -20,8 +20,10 @@ pub(crate) fn copy(
     start: u64,
     from: &[CopySource],
 )
-    requires alone { IsAlone (destination_of space start (map (source_region (bare block 1 1)) from.now)) (piece_regions pieces.old.items) }
-    requires whole { AllByRecursion (λ (piece : RegionBytes). length piece.bytes ≡ piece.region.len) (region_bytes pieces.old.items) }
+    requires alone { IsAlone (destination_of space start (map (source_region (bare block 1 1)) from.now))
+        (piece_regions pieces.old.items) }
+    requires whole { AllByRecursion (λ (piece : RegionBytes). length piece.bytes ≡ piece.region.len)
+        (region_bytes pieces.old.items) }
     requires held { AllByRecursion (λ source. IsSource (region_bytes pieces.old.items) (source_region (bare block 1 1) source)) from.now }
     requires beside { AllByRecursion (λ source. IsBeside (destination_of space start (map (source_region (bare block 1 1)) from.now))
         (source_region (bare block 1 1) source)) from.now }
@@ -42,7 +44,9 @@ pub(crate) fn copy(
 fn gather(made: &mut Bytes, pieces: &[Piece], block: u32, from: &[CopySource])
     requires held { AllByRecursion (λ source. IsSource (region_bytes pieces.now) (source_region (bare block 1 1) source)) from.now }
     requires room { total_len (map (source_region (bare block 1 1)) from.now) ≤ made.old.spare }
-    ensures { made.new.items ≡ made.old.items ++ gathered_joined (carried (region_bytes pieces.now)) (map (source_region (bare block 1 1)) from.now) }
+    ensures { made.new.items
+        ≡ made.old.items
+        ++ gathered_joined (carried (region_bytes pieces.now)) (map (source_region (bare block 1 1)) from.now) }
 {
     for source in from {
         made.append(source_bytes(pieces, block, source));
@@ -52,7 +56,8 @@ fn gather(made: &mut Bytes, pieces: &[Piece], block: u32, from: &[CopySource])
 // The bytes of a source.
 fn source_bytes<'p>(pieces: &'p [Piece], block: u32, source: &CopySource) -> &'p [u8]
     requires { IsSource (region_bytes pieces.now) (source_region (bare block 1 1) source.now) }
-    ensures { result.now ≡ gathered_region (carried (region_bytes pieces.now)) (source_region (bare block 1 1) source.now) }
+    ensures { result.now
+        ≡ gathered_region (carried (region_bytes pieces.now)) (source_region (bare block 1 1) source.now) }
 {
     let block = u64::from(block);
     match source {

@@ -59,7 +59,8 @@ pub(crate) fn execute_own(
         → told_of budget (builtin_outcome program ranges.now (memory_in pieces.old.items) p1 p2 budget).ending
         ≡ record { status = result.0; result = result.1; bytes = [] } }
     ensures left { (program : Builtin) → builtin_at slot ≡ Some program
-        → region_bytes pieces.new.items ≡ ranges_with (builtin_outcome program ranges.now (memory_in pieces.old.items) p1 p2 budget).memory ranges.now }
+        → region_bytes pieces.new.items
+        ≡ ranges_with (builtin_outcome program ranges.now (memory_in pieces.old.items) p1 p2 budget).memory ranges.now }
 {
     let Some(program) = own_program(slot) else {
         return (Status::Ok, 0);
@@ -157,7 +158,10 @@ fn summed_in(bytes: &[u8]) -> u64
 // Where the first two pieces first differ, among as many bytes as both have.
 fn compared(pieces: &[Piece], cost: u64) -> u64
     requires { cost ≡ common_len (piece_bytes pieces.now) }
-    ensures { result ≡ unwrap_or (builtin.first_difference (window_at (piece_bytes pieces.now) 0) (window_at (piece_bytes pieces.now) 1)) (2 ^ 64 - 1) }
+    ensures { result
+        ≡ unwrap_or
+        (builtin.first_difference (window_at (piece_bytes pieces.now) 0) (window_at (piece_bytes pieces.now) 1))
+        (2 ^ 64 - 1) }
 {
     if pieces.len() < 2 {
         return u64::MAX;
@@ -182,7 +186,9 @@ fn classes(
         → told_of budget (builtin_outcome builtin.Classes ranges.now (memory_in pieces.old.items) p1 p2 budget).ending
         ≡ record { status = result.0; result = result.1; bytes = [] } }
     ensures left { (p1 p2 budget : ℕ) → low ≡ p1 % 256 → high ≡ p2 % 256 → cost ≤ budget
-        → region_bytes pieces.new.items ≡ ranges_with (builtin_outcome builtin.Classes ranges.now (memory_in pieces.old.items) p1 p2 budget).memory ranges.now }
+        → region_bytes pieces.new.items
+        ≡ ranges_with
+        (builtin_outcome builtin.Classes ranges.now (memory_in pieces.old.items) p1 p2 budget).memory ranges.now }
 {
     if cost == 0 {
         return (Status::Ok, 0);

@@ -47,7 +47,8 @@ pub(crate) fn index_at(pieces: &[Piece], space: SpaceId, start: u64) -> usize
     ensures alone { (written : RegionBytes) → slice_get (piece_regions pieces.now) result ≡ Some written.region
         → written.region.space ≡ space → written.region.start ≡ start
         → pieces_with written (region_bytes pieces.now) ≡ slice_set (region_bytes pieces.now) result written }
-    ensures found { (region : Region) → IsAlone region (piece_regions pieces.now) → region.space ≡ space → region.start ≡ start
+    ensures found { (region : Region) → IsAlone region (piece_regions pieces.now) → region.space ≡ space
+        → region.start ≡ start
         → slice_get (piece_regions pieces.now) result ≡ Some region }
 {
     for (i, piece) in pieces.iter().enumerate() {
@@ -61,7 +62,8 @@ pub(crate) fn index_at(pieces: &[Piece], space: SpaceId, start: u64) -> usize
 /// Moves the bytes of a piece out, and leaves none in it.
 pub(crate) fn take_bytes(pieces: &mut Vec<Piece>, index: usize) -> Bytes
     requires { index < length pieces.old.items }
-    ensures bytes { (piece : RegionBytes) → slice_get (region_bytes pieces.old.items) index ≡ Some piece → result.items ≡ piece.bytes }
+    ensures bytes { (piece : RegionBytes) → slice_get (region_bytes pieces.old.items) index ≡ Some piece
+        → result.items ≡ piece.bytes }
     ensures left { (piece : RegionBytes) → slice_get (region_bytes pieces.old.items) index ≡ Some piece
         → region_bytes pieces.new.items ≡ slice_set (region_bytes pieces.old.items) index (piece_holding [] piece) }
 {
@@ -73,7 +75,8 @@ pub(crate) fn take_bytes(pieces: &mut Vec<Piece>, index: usize) -> Bytes
 pub(crate) fn put_bytes(pieces: &mut Vec<Piece>, index: usize, bytes: Bytes)
     requires { index < length pieces.old.items }
     ensures { (piece : RegionBytes) → slice_get (region_bytes pieces.old.items) index ≡ Some piece
-        → region_bytes pieces.new.items ≡ slice_set (region_bytes pieces.old.items) index (piece_holding bytes.items piece) }
+        → region_bytes pieces.new.items
+        ≡ slice_set (region_bytes pieces.old.items) index (piece_holding bytes.items piece) }
 {
     pieces[index].bytes = bytes;
 }

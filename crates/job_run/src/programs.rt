@@ -36,7 +36,9 @@ pub(crate) fn execute(
         → told_of budget (outcome_on (Loaded bytes) ranges.now (memory_in pieces.old.items) p1 p2 budget).ending
         ≡ record { status = result.0; result = result.1; bytes = [] } }
     ensures left { (bytes : List ℕ) → ((place : ℕ) → insn_at code.now (pos place) ≡ instruction_at bytes place)
-        → region_bytes pieces.new.items ≡ ranges_with (outcome_on (Loaded bytes) ranges.now (memory_in pieces.old.items) p1 p2 budget).memory ranges.now }
+        → region_bytes pieces.new.items
+        ≡ ranges_with
+        (outcome_on (Loaded bytes) ranges.now (memory_in pieces.old.items) p1 p2 budget).memory ranges.now }
 {
     let windows = into_windows(pieces, ranges, windows);
     let mut view = View::new(windows, stack);

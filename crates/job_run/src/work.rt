@@ -166,7 +166,8 @@ fn written(pieces: Vec<Piece>, reply: Bytes, bytes: &[u8]) -> Worked
 fn filled(pieces: Vec<Piece>, reply: Bytes, value: u8) -> Worked
     requires { (len : ℕ) × IsWritable pieces.items reply len }
     ensures { (len : ℕ) → byte_counts (region_bytes pieces.items) ≡ len ∷ []
-        → Leaves result (only_status Status.Ok) (map (piece_holding (replicate len value)) (region_bytes pieces.items)) }
+        → Leaves result (only_status Status.Ok)
+        (map (piece_holding (replicate len value)) (region_bytes pieces.items)) }
 {
     let mut pieces = pieces;
     fill(&mut pieces, value);
@@ -205,11 +206,13 @@ fn executed(
 ) -> Worked
     requires few { length ranges.now ≤ MAX_ITEMS }
     requires empty { reply.items ≡ [] }
-    requires ready { (runs : Executable) × IsExecutable runs ranges.now pieces.items windows.items (vec_capacity windows)
+    requires ready { (runs : Executable)
+        × IsExecutable runs ranges.now pieces.items windows.items (vec_capacity windows)
         (option_map (λ decoded. decoded.value) code) stack asked.slot asked.budget }
     ensures { (runs : Executable) → IsExecutable runs ranges.now pieces.items windows.items (vec_capacity windows)
         (option_map (λ decoded. decoded.value) code) stack asked.slot asked.budget
-        → Leaves result (told_of asked.budget (outcome_on runs ranges.now (memory_in pieces.items) asked.p1 asked.p2 asked.budget).ending)
+        → Leaves result
+        (told_of asked.budget (outcome_on runs ranges.now (memory_in pieces.items) asked.p1 asked.p2 asked.budget).ending)
         (ranges_with (outcome_on runs ranges.now (memory_in pieces.items) asked.p1 asked.p2 asked.budget).memory ranges.now) }
 {
     let mut pieces = pieces;
@@ -242,7 +245,8 @@ fn executed(
 
 // What work leaves, of its parts.
 fn leave(pieces: Vec<Piece>, status: Status, value: u64, bytes: Bytes) -> Worked
-    ensures { Leaves result (record { status = status; result = value; bytes = bytes.items }) (region_bytes pieces.items) }
+    ensures { Leaves result (record { status = status; result = value; bytes = bytes.items })
+        (region_bytes pieces.items) }
 {
     Worked {
         pieces,

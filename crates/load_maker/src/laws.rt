@@ -12,9 +12,11 @@ ghost use Rattle.load_maker.specs.Load.{load_lines, load_text};
 /// queues. Its lines say what lines can, and are few.
 pub fn load_laws()
     ensures accepted { (seed commands : ℕ) → commands ≤ MAX_MADE → first_fault (load_text seed commands) ≡ None }
-    ensures planned { (seed commands : ℕ) (script : Script) (fault : PlanFault) → commands ≤ MAX_MADE → AreSized (lines_of script)
+    ensures planned { (seed commands : ℕ) (script : Script) (fault : PlanFault) → commands ≤ MAX_MADE
+        → AreSized (lines_of script)
         → script_text script ≡ load_text seed commands → plan_of script ≡ Err fault → ⊥ }
-    ensures lines { (seed commands : ℕ) (script : Script) → AreSized (lines_of script) → script_text script ≡ load_text seed commands
+    ensures lines { (seed commands : ℕ) (script : Script) → AreSized (lines_of script)
+        → script_text script ≡ load_text seed commands
         → lines_of script ≡ load_lines seed commands }
     ensures few { (seed commands : ℕ) → newlines (load_text seed commands) ≤ 18 + 8 * commands }
 {}

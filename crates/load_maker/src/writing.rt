@@ -197,7 +197,8 @@ fn push_own(
     host: u32,
     word: u64,
 ) -> Result<(), NoMemory>
-    ensures { OnOk result (PrintsLines (if number % 4 == host then turn_lines (number / 4) (word_command word) else []) out.old.items out.new.items) }
+    ensures { OnOk result
+        (PrintsLines (if number % 4 == host then turn_lines (number / 4) (word_command word) else []) out.old.items out.new.items) }
 {
     if number % HOSTS != host {
         return Ok(());

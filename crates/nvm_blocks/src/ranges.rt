@@ -37,7 +37,8 @@ pub fn blocks_to_range(
         (λ status. first_failing (block_checks config.now ns lba count most) ≡ Some status) }
     ensures range { IfOk result (λ range. range
         ≡ record { space = SpaceId.Nvm ns; start = lba * config.now.block; len = count * config.now.block }) }
-    ensures inside { IfOk result (λ range. range.start + range.len ≤ unwrap_or (size_of config.now (SpaceId.Nvm ns)) 0) }
+    ensures inside { IfOk result
+        (λ range. range.start + range.len ≤ unwrap_or (size_of config.now (SpaceId.Nvm ns)) 0) }
 {
     let Some(blocks) = blocks_of(config, ns) else {
         return Err(Status::BadNamespace);
@@ -75,7 +76,8 @@ pub fn write_to_range(
         (λ status. first_failing (write_checks config.now ns lba len most) ≡ Some status) }
     ensures range { IfOk result (λ range. range
         ≡ record { space = SpaceId.Nvm ns; start = lba * config.now.block; len = len }) }
-    ensures inside { IfOk result (λ range. range.start + range.len ≤ unwrap_or (size_of config.now (SpaceId.Nvm ns)) 0) }
+    ensures inside { IfOk result
+        (λ range. range.start + range.len ≤ unwrap_or (size_of config.now (SpaceId.Nvm ns)) 0) }
 {
     let Some(blocks) = blocks_of(config, ns) else {
         return Err(Status::BadNamespace);

@@ -9,4 +9,5 @@ hex_line code = hex_text code ++ 10 ∷ []
 
 -- the bytes that an input is in hex, with one newline behind them
 abbrev pub code_in : List ℕ → Option (List ℕ)
-code_in input = if bytes_eq (drop (length input - 1) input) (10 ∷ []) then hex_of (take (length input - 1) input) else None
+code_in input =
+    if bytes_eq (drop (length input - 1) input) (10 ∷ []) then hex_of (take (length input - 1) input) else None

@@ -27,7 +27,8 @@ pub record IsDisassembly (input : List ℕ) (text : List ℕ) : Type 0 where
 -- or the first place without an instruction.
 pub data TellsCode (input : List ℕ) (text : List ℕ) : Type 0 where
   NotHex : code_in input ≡ None → text ≡ refusal_line 1 (codes "Hex") → TellsCode input text
-  TooMuch : (code : List ℕ) → code_in input ≡ Some code → MAX_PROGRAM < length code → text ≡ refusal_line 1 (codes "Limit") → TellsCode input text
+  TooMuch : (code : List ℕ) → code_in input ≡ Some code → MAX_PROGRAM < length code
+      → text ≡ refusal_line 1 (codes "Limit") → TellsCode input text
   BadCode : (code : List ℕ) → code_in input ≡ Some code → length code ≤ MAX_PROGRAM → is_well_formed code ≡ false
       → text ≡ place_line (bad_place code) → TellsCode input text
 

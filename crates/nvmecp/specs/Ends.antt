@@ -21,7 +21,8 @@ pub record WritesFront (IsDue : List ℕ → Type 0) (held held' : Option (List 
 -- What an ending says of a sink, before and after, by what it holds and how often it has failed: a text
 -- that answers, one that refuses or one that denies is written; or it has failed behind a front of one of them; or memory
 -- was wanting and it is as before. An answer does not end by wrong words or by a fault of the source.
-abbrev pub EndsOn : {K : Type 0} → (List ℕ → Type 0) → (List ℕ → Type 0) → (List ℕ → Type 0) → (K → Option (List ℕ)) → (K → ℕ) → K → K → Ending → Type 0
+abbrev pub EndsOn : {K : Type 0} → (List ℕ → Type 0) → (List ℕ → Type 0) → (List ℕ → Type 0) → (K → Option (List ℕ))
+    → (K → ℕ) → K → K → Ending → Type 0
 EndsOn Answers Refuses Denies held faults sink sink' ending.Done = Writes Answers (held sink) (held sink')
 EndsOn Answers Refuses Denies held faults sink sink' ending.Refused = Writes Refuses (held sink) (held sink')
 EndsOn Answers Refuses Denies held faults sink sink' ending.Denied = Writes Denies (held sink) (held sink')
@@ -32,7 +33,8 @@ EndsOn Answers Refuses Denies held faults sink sink' ending.Usage = ⊥
 EndsOn Answers Refuses Denies held faults sink sink' ending.ReadFault = ⊥
 
 -- the same where nothing is denied
-abbrev pub EndsBy : {K : Type 0} → (List ℕ → Type 0) → (List ℕ → Type 0) → (K → Option (List ℕ)) → (K → ℕ) → K → K → Ending → Type 0
+abbrev pub EndsBy : {K : Type 0} → (List ℕ → Type 0) → (List ℕ → Type 0) → (K → Option (List ℕ)) → (K → ℕ) → K → K
+    → Ending → Type 0
 EndsBy Answers Refuses held faults sink sink' end = EndsOn Answers Refuses (λ told. ⊥) held faults sink sink' end
 
 -- the same of a refusal by this text: nothing is answered
@@ -45,7 +47,8 @@ EndsAnswered Answers held faults sink sink' end = EndsBy Answers (λ told. ⊥) 
 
 -- the same of a denial by this text: nothing is answered or refused
 abbrev pub EndsDenied : {K : Type 0} → List ℕ → (K → Option (List ℕ)) → (K → ℕ) → K → K → Ending → Type 0
-EndsDenied text held faults sink sink' end = EndsOn (λ answer. ⊥) (λ told. ⊥) (λ told. told ≡ text) held faults sink sink' end
+EndsDenied text held faults sink sink' end =
+    EndsOn (λ answer. ⊥) (λ told. ⊥) (λ told. told ≡ text) held faults sink sink' end
 
 -- the status of an ending
 abbrev pub status_of : Ending → ℕ

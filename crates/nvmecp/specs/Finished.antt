@@ -26,4 +26,5 @@ pub record IsFinished (c : Configuration) (phases : List Phase) (f : Finished) :
 
 -- what is printed of a device and of shows
 abbrev pub printed_text : Recorded → List Show → List ℕ
-printed_text d shows = concat (ended_lines 1 (world_in d).history) ++ concat (shown_lines (world_in d).state.contents shows)
+printed_text d shows =
+    concat (ended_lines 1 (world_in d).history) ++ concat (shown_lines (world_in d).state.contents shows)

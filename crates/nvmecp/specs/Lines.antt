@@ -9,7 +9,8 @@ use Rattle.device_core.specs.Gives.{Ended, ended_by}
 
 -- the line of a command that is over
 abbrev pub ended_line : ℕ → Ended → List ℕ
-ended_line k e = line_of_entry k e.host e.ordinal e.cid (word_of e.command) e.answer.status e.answer.result e.answer.bytes
+ended_line k e =
+    line_of_entry k e.host e.ordinal e.cid (word_of e.command) e.answer.status e.answer.result e.answer.bytes
 
 -- the lines of completions, of which the first has this number
 abbrev pub ended_lines : ℕ → List Completion → List (List ℕ)

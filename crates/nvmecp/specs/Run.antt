@@ -66,21 +66,31 @@ pub record Ran {S K : Type 0} (words : List (List ℕ)) (left : S → Option (Li
   pub usage : status ≡ 1 → errand_of words ≡ None
   pub wrong : errand_of words ≡ None → (status ≡ 1) ⊎ (status ≡ 5)
   pub untouched : status ≡ 1 → (source' ≡ source) × (sink' ≡ sink)
-  pub done : status ≡ 0 → IfSome (asked_of words) (λ asked. Done (task_of asked) left given held source source' sink sink')
-  pub refused : status ≡ 2 → IfSome (asked_of words) (λ asked. IsRefused (task_of asked) left given held source source' sink sink')
-  pub denied : status ≡ 6 → IfSome (asked_of words) (λ asked. IsDenied (task_of asked) left given held source source' sink sink')
+  pub done : status ≡ 0
+      → IfSome (asked_of words) (λ asked. Done (task_of asked) left given held source source' sink sink')
+  pub refused : status ≡ 2
+      → IfSome (asked_of words) (λ asked. IsRefused (task_of asked) left given held source source' sink sink')
+  pub denied : status ≡ 6
+      → IfSome (asked_of words) (λ asked. IsDenied (task_of asked) left given held source source' sink sink')
   pub made : IfSome (load_of words) (λ load. IsMade load held source source' sink sink' status)
   pub read_fault : status ≡ 3 → Rose (source_faults source) (source_faults source')
   pub write_fault : status ≡ 4 → Rose (sink_faults sink) (sink_faults sink')
-  pub cut_short : status ≡ 4 → IfSome (asked_of words) (λ asked. IsCutShort (task_of asked) left given held source source' sink sink')
+  pub cut_short : status ≡ 4
+      → IfSome (asked_of words) (λ asked. IsCutShort (task_of asked) left given held source source' sink sink')
   pub unwritten : (status ≡ 3) ⊎ (status ≡ 5) → sink' ≡ sink
   pub statuses : status ≤ 6
-  pub accepted : (asked : Asked) (input : List ℕ) → asked_of words ≡ Some asked → left source ≡ Some input → length input ≤ (task_of asked).limit
-      → (task_of asked).Accepts input → NoFault source_faults sink_faults source source' sink sink' → (status ≡ 0) ⊎ (status ≡ 5)
-  pub rejected : (asked : Asked) (input : List ℕ) → asked_of words ≡ Some asked → left source ≡ Some input → length input ≤ (task_of asked).limit
-      → (task_of asked).Rejects input → NoFault source_faults sink_faults source source' sink sink' → (status ≡ 2) ⊎ (status ≡ 5)
-  pub belied : (asked : Asked) (input : List ℕ) → asked_of words ≡ Some asked → left source ≡ Some input → length input ≤ (task_of asked).limit
-      → (task_of asked).Belies input → NoFault source_faults sink_faults source source' sink sink' → (status ≡ 6) ⊎ (status ≡ 5)
+  pub accepted : (asked : Asked) (input : List ℕ) → asked_of words ≡ Some asked → left source ≡ Some input
+      → length input ≤ (task_of asked).limit
+      → (task_of asked).Accepts input → NoFault source_faults sink_faults source source' sink sink'
+      → (status ≡ 0) ⊎ (status ≡ 5)
+  pub rejected : (asked : Asked) (input : List ℕ) → asked_of words ≡ Some asked → left source ≡ Some input
+      → length input ≤ (task_of asked).limit
+      → (task_of asked).Rejects input → NoFault source_faults sink_faults source source' sink sink'
+      → (status ≡ 2) ⊎ (status ≡ 5)
+  pub belied : (asked : Asked) (input : List ℕ) → asked_of words ≡ Some asked → left source ≡ Some input
+      → length input ≤ (task_of asked).limit
+      → (task_of asked).Belies input → NoFault source_faults sink_faults source source' sink sink'
+      → (status ≡ 6) ⊎ (status ≡ 5)
 
 -- What the process says of its words where the first one is `serve`, by its status. Where there is no memory for the
 -- words, the status is 5. All else is as the clauses of `serve`.
@@ -96,7 +106,11 @@ pub record Served {S K : Type 0} (words : List (List ℕ)) (left : S → Option 
   pub cut_short : status ≡ 4 → IsCutShort serve_task left given held source source' sink sink'
   pub unwritten : (status ≡ 3) ⊎ (status ≡ 5) → sink' ≡ sink
   pub statuses : status ≤ 5
-  pub accepted : (input : List ℕ) → IsSome (workers_of_words words) → left source ≡ Some input → length input ≤ serve_task.limit
-      → serve_task.Accepts input → NoFault source_faults sink_faults source source' sink sink' → (status ≡ 0) ⊎ (status ≡ 5)
-  pub rejected : (input : List ℕ) → IsSome (workers_of_words words) → left source ≡ Some input → length input ≤ serve_task.limit
-      → serve_task.Rejects input → NoFault source_faults sink_faults source source' sink sink' → (status ≡ 2) ⊎ (status ≡ 5)
+  pub accepted : (input : List ℕ) → IsSome (workers_of_words words) → left source ≡ Some input
+      → length input ≤ serve_task.limit
+      → serve_task.Accepts input → NoFault source_faults sink_faults source source' sink sink'
+      → (status ≡ 0) ⊎ (status ≡ 5)
+  pub rejected : (input : List ℕ) → IsSome (workers_of_words words) → left source ≡ Some input
+      → length input ≤ serve_task.limit
+      → serve_task.Rejects input → NoFault source_faults sink_faults source source' sink sink'
+      → (status ≡ 2) ⊎ (status ≡ 5)

@@ -16,11 +16,14 @@ AreShort history = AllByRecursion (λ (done : Completion). length done.answer.by
 
 -- each show is of at most 8,192 bytes inside a namespace
 abbrev pub AreInside : Configuration → List Show → Type 0
-AreInside c shows = All (λ (show : Show). (show.range.len ≤ MAX_TRANSFER) × (show.range.start + show.range.len ≤ unwrap_or (size_of c show.range.space) 0)) shows
+AreInside c shows =
+    All (λ (show : Show). (show.range.len ≤ MAX_TRANSFER) × (show.range.start + show.range.len ≤ unwrap_or (size_of c show.range.space) 0)) shows
 
 -- each byte of each namespace is at home
 abbrev pub IsAllAtHome : Recorded → Type 0
-IsAllAtHome d = (space : SpaceId) (offset : ℕ) → offset < unwrap_or (size_of d.config space) 0 → IsSome (home d.config (world_in d) space offset)
+IsAllAtHome d =
+    (space : SpaceId) (offset : ℕ) → offset < unwrap_or (size_of d.config space) 0
+    → IsSome (home d.config (world_in d) space offset)
 
 -- there is room for this many bytes once the buffer is cleared
 abbrev pub HasRoomFor : ℕ → Buffer → Type 0

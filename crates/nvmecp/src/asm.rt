@@ -26,7 +26,8 @@ fn hex_of(alloc: Global, code: &Bytes) -> Result<Bytes, NoMemory>
 /// Answers an input that is to be assembly text: its code is written in hex, or the first faulty line is
 /// told.
 pub fn answer<K: Sink>(alloc: Global, input: &Bytes, sink: &mut K) -> Ending
-    ensures ends { EndsBy (asm_task.Answers input.now.items) (asm_task.Refuses input.now.items) K.held K.faults sink.old sink.new result }
+    ensures ends { EndsBy (asm_task.Answers input.now.items)
+        (asm_task.Refuses input.now.items) K.held K.faults sink.old sink.new result }
     ensures accepted { asm_task.Accepts input.now.items → result ≡ Ending.Refused → ⊥ }
     ensures rejected { asm_task.Rejects input.now.items → result ≡ Ending.Done → ⊥ }
 {

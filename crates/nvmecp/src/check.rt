@@ -56,7 +56,8 @@ fn check_script<K: Sink>(alloc: Global, text: &Bytes, history: &[u8], sink: &mut
     requires within { length text.now.items ≤ max_trace }
     ensures ends { EndsOn (λ line. TellsLegal line text.now.items history.now) (TellsScript text.now.items)
         (λ line. TellsBad line text.now.items history.now) K.held K.faults sink.old sink.new result }
-    ensures accepted { IsLegalFor text.now.items history.now → (result ≡ Ending.Refused) ⊎ (result ≡ Ending.Denied) → ⊥ }
+    ensures accepted { IsLegalFor text.now.items history.now → (result ≡ Ending.Refused) ⊎ (result ≡ Ending.Denied)
+        → ⊥ }
     ensures rejected { HasNoPlan text.now.items → (result ≡ Ending.Done) ⊎ (result ≡ Ending.Denied) → ⊥ }
     ensures belied { IsIllegalFor text.now.items history.now → (result ≡ Ending.Done) ⊎ (result ≡ Ending.Refused) → ⊥ }
 {

@@ -26,7 +26,8 @@ fn code_of(alloc: Global, input: &[u8]) -> Result<Option<Bytes>, NoMemory>
 
 /// Answers an input that is to be code in hex: its assembly text is written, or what is wrong is told.
 pub fn answer<K: Sink>(alloc: Global, input: &Bytes, sink: &mut K) -> Ending
-    ensures ends { EndsBy (dis_task.Answers input.now.items) (dis_task.Refuses input.now.items) K.held K.faults sink.old sink.new result }
+    ensures ends { EndsBy (dis_task.Answers input.now.items)
+        (dis_task.Refuses input.now.items) K.held K.faults sink.old sink.new result }
     ensures accepted { dis_task.Accepts input.now.items → result ≡ Ending.Refused → ⊥ }
     ensures rejected { dis_task.Rejects input.now.items → result ≡ Ending.Done → ⊥ }
 {

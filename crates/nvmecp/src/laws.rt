@@ -16,10 +16,12 @@ ghost use Rattle.nvmecp.specs.declared.words.Asked.{Asked};
 /// command finds no memory.
 pub fn one_output()
     ensures assembled { (input one other : List ℕ) → IsAssembly input one → IsAssembly input other → one ≡ other }
-    ensures disassembled { (input one other : List ℕ) → IsDisassembly input one → IsDisassembly input other → one ≡ other }
+    ensures disassembled { (input one other : List ℕ) → IsDisassembly input one → IsDisassembly input other
+        → one ≡ other }
     ensures refused { (asked : Asked) (input one other : List ℕ) → IsRefusal (task_of asked) input one
         → IsRefusal (task_of asked) input other → one ≡ other }
-    ensures serve_refused { (input one other : List ℕ) → IsRefusal serve_task input one → IsRefusal serve_task input other
+    ensures serve_refused { (input one other : List ℕ) → IsRefusal serve_task input one
+        → IsRefusal serve_task input other
         → one ≡ other }
     ensures one_end { (asked : Asked) (input one other : List ℕ) → length input ≤ (task_of asked).limit
         → (task_of asked).Answers input one → IsRefusal (task_of asked) input other → ⊥ }

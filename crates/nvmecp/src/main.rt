@@ -86,9 +86,11 @@ fn run_words<R: Threads + Wait + Sync, S: Source, K: Sink>(
     source: &mut S,
     sink: &mut K,
 ) -> u8
-    ensures ran { begins_with_serve (map string_bytes words.now) ≡ false → Ran (map string_bytes words.now) S.left S.given S.faults K.held K.faults
+    ensures ran { begins_with_serve (map string_bytes words.now) ≡ false
+        → Ran (map string_bytes words.now) S.left S.given S.faults K.held K.faults
         source.old source.new sink.old sink.new result }
-    ensures served { begins_with_serve (map string_bytes words.now) ≡ true → Served (map string_bytes words.now) S.left S.given S.faults K.held K.faults
+    ensures served { begins_with_serve (map string_bytes words.now) ≡ true
+        → Served (map string_bytes words.now) S.left S.given S.faults K.held K.faults
         source.old source.new sink.old sink.new result }
 {
     if begins_with_serve(words) {

@@ -29,7 +29,8 @@ pub fn planned_script<K: Sink>(
     ensures faultless { IfOk result (λ read. first_fault input.now.items ≡ None) }
     ensures text { IfOk result (λ read. IsTextOf read.0 input.now.items) }
     ensures planned { IfOk result (λ read. IsPlanned read.0 read.1) }
-    ensures ends { IfErr result (λ end. EndsBy (λ answer. ⊥) (TellsScript input.now.items) K.held K.faults sink.old sink.new end) }
+    ensures ends { IfErr result
+        (λ end. EndsBy (λ answer. ⊥) (TellsScript input.now.items) K.held K.faults sink.old sink.new end) }
     ensures accepted { HasPlan input.now.items → result ≡ Err Ending.Refused → ⊥ }
     ensures rejected { HasNoPlan input.now.items → IfOk result (λ read. ⊥) }
     ensures answered { IfErr result (λ end. end ≡ Ending.Done → ⊥) }

@@ -33,7 +33,8 @@ fn print_entry<K: Sink>(
     requires short { length entry.now.reply.now.bytes.items ≤ MAX_TRANSFER }
     ensures room { HasRoomFor LONGEST_LINE line.new }
     ensures all { OnOk result (Appends (K.held sink.old) (K.held sink.new) (ended_line k (ended_as_shown entry.now))) }
-    ensures front { OnErr result (AppendsFront (K.held sink.old) (K.held sink.new) (ended_line k (ended_as_shown entry.now))) }
+    ensures front { OnErr result
+        (AppendsFront (K.held sink.old) (K.held sink.new) (ended_line k (ended_as_shown entry.now))) }
     ensures fault { OnErr result (Rose (K.faults sink.old) (K.faults sink.new)) }
     ensures later { K.faults sink.old ≤ K.faults sink.new }
 {
@@ -58,8 +59,10 @@ fn print_entries<K: Sink>(sink: &mut K, line: &mut Bytes, core: &Core) -> Result
     requires room { HasRoomFor LONGEST_LINE line.old }
     requires short { AreShort (world_in core.now).history }
     ensures room { HasRoomFor LONGEST_LINE line.new }
-    ensures all { OnOk result (Appends (K.held sink.old) (K.held sink.new) (concat (ended_lines 1 (world_in core.now).history))) }
-    ensures front { OnErr result (AppendsFront (K.held sink.old) (K.held sink.new) (concat (ended_lines 1 (world_in core.now).history))) }
+    ensures all { OnOk result
+        (Appends (K.held sink.old) (K.held sink.new) (concat (ended_lines 1 (world_in core.now).history))) }
+    ensures front { OnErr result
+        (AppendsFront (K.held sink.old) (K.held sink.new) (concat (ended_lines 1 (world_in core.now).history))) }
     ensures fault { OnErr result (Rose (K.faults sink.old) (K.faults sink.new)) }
     ensures later { K.faults sink.old ≤ K.faults sink.new }
 {
@@ -87,8 +90,10 @@ fn print_show<K: Sink>(
     requires home { IsAllAtHome core.now }
     ensures room { HasRoomFor LONGEST_LINE line.new }
     ensures bytes { HasRoomFor MAX_TRANSFER shown.new }
-    ensures all { OnOk result (Appends (K.held sink.old) (K.held sink.new) (shown_text show.now (bytes_in (world_in core.now).state.contents show.now.range))) }
-    ensures front { OnErr result (AppendsFront (K.held sink.old) (K.held sink.new) (shown_text show.now (bytes_in (world_in core.now).state.contents show.now.range))) }
+    ensures all { OnOk result
+        (Appends (K.held sink.old) (K.held sink.new) (shown_text show.now (bytes_in (world_in core.now).state.contents show.now.range))) }
+    ensures front { OnErr result
+        (AppendsFront (K.held sink.old) (K.held sink.new) (shown_text show.now (bytes_in (world_in core.now).state.contents show.now.range))) }
     ensures fault { OnErr result (Rose (K.faults sink.old) (K.faults sink.new)) }
     ensures later { K.faults sink.old ≤ K.faults sink.new }
 {
@@ -113,8 +118,10 @@ fn print_shows<K: Sink>(
     requires bytes { HasRoomFor MAX_TRANSFER shown.old }
     requires inside { AreInside core.now.config shows.now }
     requires home { IsAllAtHome core.now }
-    ensures all { OnOk result (Appends (K.held sink.old) (K.held sink.new) (concat (shown_lines (world_in core.now).state.contents shows.now))) }
-    ensures front { OnErr result (AppendsFront (K.held sink.old) (K.held sink.new) (concat (shown_lines (world_in core.now).state.contents shows.now))) }
+    ensures all { OnOk result
+        (Appends (K.held sink.old) (K.held sink.new) (concat (shown_lines (world_in core.now).state.contents shows.now))) }
+    ensures front { OnErr result
+        (AppendsFront (K.held sink.old) (K.held sink.new) (concat (shown_lines (world_in core.now).state.contents shows.now))) }
     ensures fault { OnErr result (Rose (K.faults sink.old) (K.faults sink.new)) }
     ensures later { K.faults sink.old ≤ K.faults sink.new }
 {
@@ -132,7 +139,8 @@ pub fn print<K: Sink>(sink: &mut K, finished: Finished, shows: &[Show]) -> Resul
     requires inside { AreInside finished.core.config shows.now }
     requires home { IsAllAtHome finished.core }
     ensures all { OnOk result (Appends (K.held sink.old) (K.held sink.new) (printed_text finished.core shows.now)) }
-    ensures front { OnErr result (AppendsFront (K.held sink.old) (K.held sink.new) (printed_text finished.core shows.now)) }
+    ensures front { OnErr result
+        (AppendsFront (K.held sink.old) (K.held sink.new) (printed_text finished.core shows.now)) }
     ensures fault { OnErr result (Rose (K.faults sink.old) (K.faults sink.new)) }
     ensures later { K.faults sink.old ≤ K.faults sink.new }
 {

@@ -24,11 +24,16 @@ fn read_and_answer<S: Source, K: Sink>(
     sink: &mut K,
 ) -> Ending
     requires { HasWorkers asked }
-    ensures status { (status_of result ≡ 0) ⊎ (status_of result ≡ 2) ⊎ (status_of result ≡ 3) ⊎ (status_of result ≡ 4) ⊎ (status_of result ≡ 5) ⊎ (status_of result ≡ 6) }
-    ensures done { status_of result ≡ 0 → Done (task_of asked) S.left S.given K.held source.old source.new sink.old sink.new }
-    ensures refused { status_of result ≡ 2 → IsRefused (task_of asked) S.left S.given K.held source.old source.new sink.old sink.new }
-    ensures denied { status_of result ≡ 6 → IsDenied (task_of asked) S.left S.given K.held source.old source.new sink.old sink.new }
-    ensures cut_short { status_of result ≡ 4 → IsCutShort (task_of asked) S.left S.given K.held source.old source.new sink.old sink.new }
+    ensures status { (status_of result ≡ 0) ⊎ (status_of result ≡ 2) ⊎ (status_of result ≡ 3) ⊎ (status_of result ≡ 4)
+        ⊎ (status_of result ≡ 5) ⊎ (status_of result ≡ 6) }
+    ensures done { status_of result ≡ 0
+        → Done (task_of asked) S.left S.given K.held source.old source.new sink.old sink.new }
+    ensures refused { status_of result ≡ 2
+        → IsRefused (task_of asked) S.left S.given K.held source.old source.new sink.old sink.new }
+    ensures denied { status_of result ≡ 6
+        → IsDenied (task_of asked) S.left S.given K.held source.old source.new sink.old sink.new }
+    ensures cut_short { status_of result ≡ 4
+        → IsCutShort (task_of asked) S.left S.given K.held source.old source.new sink.old sink.new }
     ensures read_fault { status_of result ≡ 3 → Rose (S.faults source.old) (S.faults source.new) }
     ensures write_fault { status_of result ≡ 4 → Rose (K.faults sink.old) (K.faults sink.new) }
     ensures unwritten { (status_of result ≡ 3) ⊎ (status_of result ≡ 5) → sink.new ≡ sink.old }
@@ -91,13 +96,16 @@ pub fn run<S: Source, K: Sink>(alloc: Global, words: &[String], source: &mut S, 
 
     // Good words and no fault: an accepted input is done and a rejected one is refused, unless memory is
     // wanting.
-    ensures accepted { (asked : Asked) (input : List ℕ) → asked_of (map string_bytes words.now) ≡ Some asked → S.left source.old ≡ Some input
+    ensures accepted { (asked : Asked) (input : List ℕ) → asked_of (map string_bytes words.now) ≡ Some asked
+        → S.left source.old ≡ Some input
         → length input ≤ (task_of asked).limit → (task_of asked).Accepts input
         → NoFault S.faults K.faults source.old source.new sink.old sink.new → (result ≡ 0) ⊎ (result ≡ 5) }
-    ensures rejected { (asked : Asked) (input : List ℕ) → asked_of (map string_bytes words.now) ≡ Some asked → S.left source.old ≡ Some input
+    ensures rejected { (asked : Asked) (input : List ℕ) → asked_of (map string_bytes words.now) ≡ Some asked
+        → S.left source.old ≡ Some input
         → length input ≤ (task_of asked).limit → (task_of asked).Rejects input
         → NoFault S.faults K.faults source.old source.new sink.old sink.new → (result ≡ 2) ⊎ (result ≡ 5) }
-    ensures belied { (asked : Asked) (input : List ℕ) → asked_of (map string_bytes words.now) ≡ Some asked → S.left source.old ≡ Some input
+    ensures belied { (asked : Asked) (input : List ℕ) → asked_of (map string_bytes words.now) ≡ Some asked
+        → S.left source.old ≡ Some input
         → length input ≤ (task_of asked).limit → (task_of asked).Belies input
         → NoFault S.faults K.faults source.old source.new sink.old sink.new → (result ≡ 6) ⊎ (result ≡ 5) }
 {

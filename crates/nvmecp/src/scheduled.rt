@@ -27,7 +27,8 @@ pub fn finish(
     requires limited { plan.commands ≤ MAX_COMMANDS }
     requires rules { All (KeepsRules config.now.depth) plan.phases }
     ensures finished { IfOk result (IsFinished config.now plan.phases) }
-    ensures scheduled { IfOk result (λ finished. IsScheduled config.now (plain_phases plan.phases) workers choices finished.core.trail) }
+    ensures scheduled { IfOk result
+        (λ finished. IsScheduled config.now (plain_phases plan.phases) workers choices finished.core.trail) }
 {
     let line = line_buffer(alloc)?;
     let shown = show_buffer(alloc)?;

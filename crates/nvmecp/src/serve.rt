@@ -90,7 +90,8 @@ fn answer<R: Threads + Wait + Sync, K: Sink, G: Gate>(
 ) -> Ending
     requires workers { (1 ≤ workers) × (workers ≤ MAX_HOSTS) }
     requires within { length input.now.items ≤ serve_task.limit }
-    ensures ends { EndsBy (serve_task.Answers input.now.items) (serve_task.Refuses input.now.items) K.held K.faults sink.old sink.new result }
+    ensures ends { EndsBy (serve_task.Answers input.now.items)
+        (serve_task.Refuses input.now.items) K.held K.faults sink.old sink.new result }
     ensures accepted { serve_task.Accepts input.now.items → result ≡ Ending.Refused → ⊥ }
     ensures rejected { serve_task.Rejects input.now.items → result ≡ Ending.Done → ⊥ }
 {
@@ -110,16 +111,21 @@ fn read_and_answer<R: Threads + Wait + Sync, S: Source, K: Sink, G: Gate>(
     gate: &G,
 ) -> Ending
     requires workers { (1 ≤ workers) × (workers ≤ MAX_HOSTS) }
-    ensures status { (status_of result ≡ 0) ⊎ (status_of result ≡ 2) ⊎ (status_of result ≡ 3) ⊎ (status_of result ≡ 4) ⊎ (status_of result ≡ 5) }
-    ensures done { status_of result ≡ 0 → Done serve_task S.left S.given K.held source.old source.new sink.old sink.new }
-    ensures refused { status_of result ≡ 2 → IsRefused serve_task S.left S.given K.held source.old source.new sink.old sink.new }
-    ensures cut_short { status_of result ≡ 4 → IsCutShort serve_task S.left S.given K.held source.old source.new sink.old sink.new }
+    ensures status { (status_of result ≡ 0) ⊎ (status_of result ≡ 2) ⊎ (status_of result ≡ 3) ⊎ (status_of result ≡ 4)
+        ⊎ (status_of result ≡ 5) }
+    ensures done { status_of result ≡ 0
+        → Done serve_task S.left S.given K.held source.old source.new sink.old sink.new }
+    ensures refused { status_of result ≡ 2
+        → IsRefused serve_task S.left S.given K.held source.old source.new sink.old sink.new }
+    ensures cut_short { status_of result ≡ 4
+        → IsCutShort serve_task S.left S.given K.held source.old source.new sink.old sink.new }
     ensures read_fault { status_of result ≡ 3 → Rose (S.faults source.old) (S.faults source.new) }
     ensures write_fault { status_of result ≡ 4 → Rose (K.faults sink.old) (K.faults sink.new) }
     ensures unwritten { (status_of result ≡ 3) ⊎ (status_of result ≡ 5) → sink.new ≡ sink.old }
     ensures accepted { (input : List ℕ) → S.left source.old ≡ Some input → length input ≤ serve_task.limit
         → serve_task.Accepts input → status_of result ≡ 2 → ⊥ }
-    ensures rejected { (input : List ℕ) → S.left source.old ≡ Some input → serve_task.Rejects input → status_of result ≡ 0 → ⊥ }
+    ensures rejected { (input : List ℕ) → S.left source.old ≡ Some input → serve_task.Rejects input
+        → status_of result ≡ 0 → ⊥ }
 {
     match read_all(alloc, source, VERSION_1.bytes) {
         Ok(input) => answer(rt, alloc, &input, workers, sink, gate),
@@ -170,15 +176,18 @@ pub fn serve<R: Threads + Wait + Sync, S: Source, K: Sink, G: Gate>(
     ensures refused { result ≡ 2 → IsRefused serve_task S.left S.given K.held source.old source.new sink.old sink.new }
     ensures read_fault { result ≡ 3 → Rose (S.faults source.old) (S.faults source.new) }
     ensures write_fault { result ≡ 4 → Rose (K.faults sink.old) (K.faults sink.new) }
-    ensures cut_short { result ≡ 4 → IsCutShort serve_task S.left S.given K.held source.old source.new sink.old sink.new }
+    ensures cut_short { result ≡ 4
+        → IsCutShort serve_task S.left S.given K.held source.old source.new sink.old sink.new }
     ensures unwritten { (result ≡ 3) ⊎ (result ≡ 5) → sink.new ≡ sink.old }
     ensures statuses { result ≤ 5 }
 
     // Good words and no fault: an accepted input is done and a rejected one is refused, unless memory is wanting.
-    ensures accepted { (input : List ℕ) → IsSome (workers_of_words (map string_bytes words.now)) → S.left source.old ≡ Some input
+    ensures accepted { (input : List ℕ) → IsSome (workers_of_words (map string_bytes words.now))
+        → S.left source.old ≡ Some input
         → length input ≤ serve_task.limit → serve_task.Accepts input
         → NoFault S.faults K.faults source.old source.new sink.old sink.new → (result ≡ 0) ⊎ (result ≡ 5) }
-    ensures rejected { (input : List ℕ) → IsSome (workers_of_words (map string_bytes words.now)) → S.left source.old ≡ Some input
+    ensures rejected { (input : List ℕ) → IsSome (workers_of_words (map string_bytes words.now))
+        → S.left source.old ≡ Some input
         → length input ≤ serve_task.limit → serve_task.Rejects input
         → NoFault S.faults K.faults source.old source.new sink.old sink.new → (result ≡ 2) ⊎ (result ≡ 5) }
 {

@@ -51,7 +51,8 @@ pub fn answer<K: Sink>(
 ) -> Ending
     requires workers { (1 ≤ workers) × (workers ≤ MAX_HOSTS) }
     requires within { length input.now.items ≤ (step_task workers choices).limit }
-    ensures ends { EndsBy ((step_task workers choices).Answers input.now.items) ((step_task workers choices).Refuses input.now.items) K.held K.faults sink.old sink.new result }
+    ensures ends { EndsBy ((step_task workers choices).Answers input.now.items)
+        ((step_task workers choices).Refuses input.now.items) K.held K.faults sink.old sink.new result }
     ensures accepted { (step_task workers choices).Accepts input.now.items → result ≡ Ending.Refused → ⊥ }
     ensures rejected { (step_task workers choices).Rejects input.now.items → result ≡ Ending.Done → ⊥ }
 {

@@ -37,7 +37,8 @@ fn write_upgraded<K: Sink>(alloc: Global, script: Script, sink: &mut K) -> Endin
 /// Answers an input that is to be a script: it is written as version 2, or the first line that is wrong is told.
 pub fn answer<K: Sink>(alloc: Global, input: &Bytes, sink: &mut K) -> Ending
     requires within { length input.now.items ≤ upgrade_task.limit }
-    ensures ends { EndsBy (upgrade_task.Answers input.now.items) (upgrade_task.Refuses input.now.items) K.held K.faults sink.old sink.new result }
+    ensures ends { EndsBy (upgrade_task.Answers input.now.items)
+        (upgrade_task.Refuses input.now.items) K.held K.faults sink.old sink.new result }
     ensures accepted { upgrade_task.Accepts input.now.items → result ≡ Ending.Refused → ⊥ }
     ensures rejected { upgrade_task.Rejects input.now.items → result ≡ Ending.Done → ⊥ }
 {

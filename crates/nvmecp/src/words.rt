@@ -64,9 +64,12 @@ impl Asked {
         requires workers { HasWorkers self }
         ensures ends { EndsOn ((task_of self).Answers input.now.items) ((task_of self).Refuses input.now.items)
             ((task_of self).Denies input.now.items) K.held K.faults sink.old sink.new result }
-        ensures accepted { (task_of self).Accepts input.now.items → (result ≡ Ending.Refused) ⊎ (result ≡ Ending.Denied) → ⊥ }
-        ensures rejected { (task_of self).Rejects input.now.items → (result ≡ Ending.Done) ⊎ (result ≡ Ending.Denied) → ⊥ }
-        ensures belied { (task_of self).Belies input.now.items → (result ≡ Ending.Done) ⊎ (result ≡ Ending.Refused) → ⊥ }
+        ensures accepted { (task_of self).Accepts input.now.items → (result ≡ Ending.Refused) ⊎ (result ≡ Ending.Denied)
+            → ⊥ }
+        ensures rejected { (task_of self).Rejects input.now.items → (result ≡ Ending.Done) ⊎ (result ≡ Ending.Denied)
+            → ⊥ }
+        ensures belied { (task_of self).Belies input.now.items → (result ≡ Ending.Done) ⊎ (result ≡ Ending.Refused)
+            → ⊥ }
     {
         match self {
             Asked::Step { workers, choices } => {

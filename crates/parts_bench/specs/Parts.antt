@@ -32,7 +32,8 @@ footprint_at first reads writes = record { reads = runs_of (strided (first + 32)
 -- so many claims, under the keys from 0 on
 abbrev pub claims_of : ℕ → ℕ → ℕ → List Claim
 claims_of reads writes zero = []
-claims_of reads writes (suc n) = claims_of reads writes n ++ record { key = n; footprint = footprint_at (64 * n) reads writes } ∷ []
+claims_of reads writes (suc n) =
+    claims_of reads writes n ++ record { key = n; footprint = footprint_at (64 * n) reads writes } ∷ []
 
 -- so many commands, each of which writes so many ranges between those that claims write
 abbrev pub footprints_between : ℕ → ℕ → List Footprint
@@ -41,7 +42,8 @@ footprints_between writes (suc n) = footprints_between writes n ++ footprint_at 
 
 -- how many commands may begin beside claims: they meet none of them
 abbrev pub free_among : List Claim → List Footprint → ℕ
-free_among claims asked = count_by (λ (footprint : Footprint). not (list_any (λ (claim : Claim). meets footprint claim.footprint) claims)) asked
+free_among claims asked =
+    count_by (λ (footprint : Footprint). not (list_any (λ (claim : Claim). meets footprint claim.footprint) claims)) asked
 
 -- how many of so many commands that write so many ranges may begin beside as many claims of 16 ranges
 unfoldable pub free_in : ℕ → ℕ → ℕ

@@ -143,7 +143,8 @@ fn change_all(claims: &mut Claims, last: Footprint, rounds: u32) -> u64
 pub fn change(alloc: Global, reads: u64, writes: u64, rounds: u32) -> Option<u64>
     requires reads { reads ≤ MAX_RUNS }
     requires writes { writes ≤ MAX_RUNS }
-    ensures { IfSome result (λ ranges. ranges ≡ rounds * ranges_touched (footprint_at (NEXT * (MOST - 1)) reads writes)) }
+    ensures { IfSome result
+        (λ ranges. ranges ≡ rounds * ranges_touched (footprint_at (NEXT * (MOST - 1)) reads writes)) }
 {
     let mut claims = kept(alloc, MOST - 1, reads, writes)?;
     let last = footprint(alloc, NEXT * u64::from(MOST - 1), reads, writes)?;

@@ -42,7 +42,8 @@ fn memory(alloc: Global, size: u32) -> Option<Extents>
 fn exchange(extents: &mut Extents, range: &ByteRange) -> Result<u64, NoMemory>
     requires { IsAtHome extents.old range.now }
     ensures len { IfOk result (λ len. len ≡ range.now.len) }
-    ensures same { OnOk result ((space : SpaceId) (offset : ℕ) → known_at extents.new space offset ≡ known_at extents.old space offset) }
+    ensures same { OnOk result
+        ((space : SpaceId) (offset : ℕ) → known_at extents.new space offset ≡ known_at extents.old space offset) }
 {
     let bytes = extents.take(range)?;
     let len = bytes.len();

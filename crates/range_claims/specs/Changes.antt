@@ -18,7 +18,8 @@ cut_at place (s ∷ segments) =
 
 -- bytes that are counted once, where there are some
 abbrev pub new_between : SpaceId → ℕ → ℕ → List Segment
-new_between space from to = if nat_lt from to then record { space = space; from = from; to = to; count = 1 } ∷ [] else []
+new_between space from to =
+    if nat_lt from to then record { space = space; from = from; to = to; count = 1 } ∷ [] else []
 
 -- the bytes from one place up to another counted once more, where segments are cut at both
 abbrev pub raised : SpaceId → ℕ → ℕ → List Segment → List Segment

@@ -19,7 +19,8 @@ is_kept claims key = list_any (λ (claim : Claim). claim.key == key) claims
 
 -- what the first claim of a key touches and holds, where one is kept
 abbrev pub footprint_under : List Claim → ℕ → Option Footprint
-footprint_under claims key = option_map (λ (claim : Claim). claim.footprint) (find (λ (claim : Claim). claim.key == key) claims)
+footprint_under claims key =
+    option_map (λ (claim : Claim). claim.footprint) (find (λ (claim : Claim). claim.key == key) claims)
 
 -- the claims without the first one of a key
 abbrev pub without_key : ℕ → List Claim → List Claim

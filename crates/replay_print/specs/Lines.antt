@@ -8,7 +8,8 @@ use Rattle.replay_print.specs.declared.summary.Summary.{Summary}
 
 -- the line of an entry; k counts the lines from 1
 abbrev pub entry_line : ℕ → EntryLine → List ℕ
-entry_line k entry = line_of_entry k entry.host entry.ordinal entry.cid entry.word entry.status entry.result entry.bytes.now
+entry_line k entry =
+    line_of_entry k entry.host entry.ordinal entry.cid entry.word entry.status entry.result entry.bytes.now
 
 -- the lines of a summary
 abbrev pub summary_lines : Summary → List ℕ

@@ -8,11 +8,13 @@ use Rattle.history_model.specs.Text.{lettered, status_text}
 
 -- the front of an entry's line: its number, and the host, the ordinal and the identifier of its command
 abbrev pub name_text : ℕ → ℕ → ℕ → ℕ → List ℕ
-name_text k host ordinal cid = lettered (codes "#") k ++ lettered (codes " h") host ++ lettered (codes " n") ordinal ++ lettered (codes " c") cid
+name_text k host ordinal cid =
+    lettered (codes "#") k ++ lettered (codes " h") host ++ lettered (codes " n") ordinal ++ lettered (codes " c") cid
 
 -- the middle of an entry's line: the word of its command, the status and the result
 abbrev pub outcome_text : CommandWord → Status → ℕ → List ℕ
-outcome_text word status value = codes " " ++ word_text word ++ codes " " ++ status_text status ++ lettered (codes " r=") value
+outcome_text word status value =
+    codes " " ++ word_text word ++ codes " " ++ status_text status ++ lettered (codes " r=") value
 
 -- the end of a line: its data and the newline
 abbrev pub data_text : List ℕ → List ℕ

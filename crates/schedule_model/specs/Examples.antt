@@ -40,9 +40,11 @@ one_rest = event.Rest 1 ∷ []
 
 -- two hosts fill bytes that they share, each in a phase of its own
 abbrev pub one_after_another : Phases
-one_after_another = (acting 1 (Sends 1 (fills 0 4) ∷ Takes 1 ∷ []) ∷ []) ∷ (acting 2 (Sends 1 (fills 2 4) ∷ Takes 1 ∷ []) ∷ []) ∷ []
+one_after_another =
+    (acting 1 (Sends 1 (fills 0 4) ∷ Takes 1 ∷ []) ∷ []) ∷ (acting 2 (Sends 1 (fills 2 4) ∷ Takes 1 ∷ []) ∷ []) ∷ []
 
 abbrev pub in_turn : Trail
 in_turn =
     event.Submit 1 1 1 (fills 0 4) ∷ event.Claim 17 1 1 0 ∷ event.Finish 17 1 answered_ok ∷ event.Take 1 1 2 ∷ event.Rest 1
-    ∷ event.Submit 2 1 1 (fills 2 4) ∷ event.Claim 17 2 1 5 ∷ event.Finish 17 6 answered_ok ∷ event.Take 2 1 7 ∷ event.Rest 1 ∷ []
+    ∷ event.Submit 2 1 1 (fills 2 4) ∷ event.Claim 17 2 1 5 ∷ event.Finish 17 6 answered_ok ∷ event.Take 2 1 7
+    ∷ event.Rest 1 ∷ []

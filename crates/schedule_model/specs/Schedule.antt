@@ -109,7 +109,8 @@ not_over at_rest (phase ∷ phases) = if all_done phase && at_rest then not_over
 
 -- From a world on, with what is left of the phases and of the number that chooses, one event and then what follows: where
 -- the hosts of the phase have done all, party 1 rests and the phase is over; else the event carries out the chosen action.
-abbrev pub GoesBy : Bool → Configuration → ℕ → World → List PlainPart → Phases → ℕ → Event → (Phases → ℕ → Type 0) → Type 0
+abbrev pub GoesBy : Bool → Configuration → ℕ → World → List PlainPart → Phases → ℕ → Event → (Phases → ℕ → Type 0)
+    → Type 0
 GoesBy true c workers w phase later choices e Then = (e ≡ event.Rest 1) × Then later choices
 GoesBy false c workers w phase later choices e Then =
     let listed : List Action = actions c workers w phase in

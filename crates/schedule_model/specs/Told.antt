@@ -32,4 +32,5 @@ pub record TellsPlan (c : Configuration) (plan : List Phase) (w : World) : Type 
   pub last : last_state c history ≡ w.state
   pub none_outstanding : (host : ℕ) → outstanding_of w.submits host ≡ []
   pub none_open : w.claims ≡ []
-  pub at_home : (space : SpaceId) (offset : ℕ) → home c w space offset ≡ slice_get (bytes_of (last_state c history).contents space) offset
+  pub at_home : (space : SpaceId) (offset : ℕ)
+      → home c w space offset ≡ slice_get (bytes_of (last_state c history).contents space) offset

@@ -22,7 +22,8 @@ pub fn trails_tell_legal_histories()
 /// whatever comes behind in which no host does anything changes nothing.
 pub fn plans_grow_by_a_phase()
     ensures begins { HostsDid [] [] }
-    ensures grows { (phases : Phases) (phase : List PlainPart) (trail whole : Trail) → HostsDid phases trail → BeginsWith whole trail
+    ensures grows { (phases : Phases) (phase : List PlainPart) (trail whole : Trail) → HostsDid phases trail
+        → BeginsWith whole trail
         → HaveDone (phases ++ phase ∷ []) whole → HostsDid (phases ++ phase ∷ []) whole }
     ensures stays { (phases : Phases) (trail whole : Trail) → HostsDid phases trail → BeginsWith whole trail
         → HaveDone phases whole → HostsDid phases whole }

@@ -22,7 +22,8 @@ pub fn schedules_go_on()
     ensures goes_on { (c : Configuration) (phases : Phases) (workers choices : ℕ) (seen : Trail) (left : Phases) (rest : ℕ)
         (e : Event) (next : Phases) (more : ℕ)
         → RunsTo c workers (first_world c) phases choices seen left rest
-        → GoesOn c workers (world_of c seen) (not_over (world_of c seen).at_rest left) rest e (λ ps n. (next ≡ ps) × (more ≡ n))
+        → GoesOn c workers (world_of c seen) (not_over (world_of c seen).at_rest left) rest e
+        (λ ps n. (next ≡ ps) × (more ≡ n))
         → RunsTo c workers (first_world c) phases choices (seen ++ e ∷ []) next more }
     ensures ends { (c : Configuration) (phases : Phases) (workers choices : ℕ) (seen : Trail) (left : Phases) (rest : ℕ)
         → RunsTo c workers (first_world c) phases choices seen left rest → not_over (world_of c seen).at_rest left ≡ []
@@ -35,7 +36,8 @@ pub fn schedules_go_on()
         → All (KeepsRules c.depth) plan → RunsTo c workers (first_world c) (plain_phases plan) choices seen left rest
         → not_over (world_of c seen).at_rest left ≡ phase ∷ later
         → Contains (actions c workers (world_of c seen) phase) (Sending host cid command)
-        → MaySubmit c (length (sends_of plan)) (world_of c seen) host cid (ordinal_after (world_of c seen).submits host) }
+        → MaySubmit c (length (sends_of plan)) (world_of c seen) host cid
+        (ordinal_after (world_of c seen).submits host) }
     ensures never_stuck { (c : Configuration) (plan : List Phase) (workers choices : ℕ) (seen : Trail) (left : Phases) (rest : ℕ)
         (phase : List PlainPart) (later : Phases)
         → All (KeepsRules c.depth) plan → 1 ≤ workers

@@ -13,9 +13,11 @@ ghost use Rattle.schedule_model.specs.Schedule.{HasMemory, IsScheduled};
 /// A trail of the schedule of a plan that keeps the rules is lawful for as many commands as the plan sends,
 /// and the hosts did the plan in it, for any number of workers and whatever is chosen.
 pub fn schedules_are_lawful()
-    ensures lawful { (c : Configuration) (plan : List Phase) (workers choices : ℕ) (trail : Trail) → All (KeepsRules c.depth) plan
+    ensures lawful { (c : Configuration) (plan : List Phase) (workers choices : ℕ) (trail : Trail)
+        → All (KeepsRules c.depth) plan
         → IsScheduled c (plain_phases plan) workers choices trail → IsLawful c (length (sends_of plan)) trail }
-    ensures did { (c : Configuration) (plan : List Phase) (workers choices : ℕ) (trail : Trail) → All (KeepsRules c.depth) plan
+    ensures did { (c : Configuration) (plan : List Phase) (workers choices : ℕ) (trail : Trail)
+        → All (KeepsRules c.depth) plan
         → IsScheduled c (plain_phases plan) workers choices trail → HostsDid (plain_phases plan) trail }
 {}
 

@@ -38,7 +38,8 @@ abbrev pub fault_from : Progress → ℕ → List (List ℕ) → Option ScriptFa
 fault_from p number [] = None
 fault_from p number ([] ∷ []) = if is_start p.stage then fault_at number cause.Order else None
 fault_from p number ((byte ∷ rest) ∷ []) = fault_at number cause.Word
-fault_from p number (text ∷ next ∷ texts) = fault_or number (read_line p text) (λ p'. fault_from p' (number + 1) (next ∷ texts))
+fault_from p number (text ∷ next ∷ texts) =
+    fault_or number (read_line p text) (λ p'. fault_from p' (number + 1) (next ∷ texts))
 
 -- the first fault of a text, where it has one
 abbrev pub first_fault : List ℕ → Option ScriptFault

@@ -119,7 +119,8 @@ has_room p (Namespace kind) values =
     namespace_fits (size_in_bytes p.config kind (number_at values 1)) (with_size p.config (space_of kind (number_at values 0)) (number_at values 1))
 has_room p Phase values = nat_lt p.phases (limits_of p.form.version).phases
 has_room p Host values = true
-has_room p (Send version word) values = nat_lt p.sends (limits_of p.form.version).sends && names_queues p.form.queues values
+has_room p (Send version word) values =
+    nat_lt p.sends (limits_of p.form.version).sends && names_queues p.form.queues values
 has_room p (Take version) values = names_queues p.form.queues values
 has_room p (Show kind) values =
     nat_lt p.shows (limits_of p.form.version).shows && nat_le (number_at values 1 + number_at values 2) (unwrap_or (size_of p.config (space_of kind (number_at values 0))) 0)

@@ -51,7 +51,8 @@ item_lines form (item ∷ items) = item_line form item ∷ item_lines form items
 
 abbrev pub part_lines : Form → List HostPart → List Line
 part_lines form [] = []
-part_lines form (part ∷ parts) = numbers_line line.Host (part.host ∷ []) ∷ item_lines form part.items ++ part_lines form parts
+part_lines form (part ∷ parts) =
+    numbers_line line.Host (part.host ∷ []) ∷ item_lines form part.items ++ part_lines form parts
 
 abbrev pub phase_lines : Form → List Phase → List Line
 phase_lines form [] = []
@@ -70,7 +71,8 @@ show_lines (show ∷ shows) = show_line show ∷ show_lines shows
 
 -- the lines of a script
 abbrev pub lines_of : Script → List Line
-lines_of script = configuration_lines script.form script.config ++ phase_lines script.form script.phases ++ show_lines script.shows
+lines_of script =
+    configuration_lines script.form script.config ++ phase_lines script.form script.phases ++ show_lines script.shows
 
 -- lines, each ended by a newline
 abbrev pub lines_text : List Line → List ℕ

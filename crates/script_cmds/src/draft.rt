@@ -72,7 +72,8 @@ impl Draft {
     pub fn add(&mut self, alloc: Global, text: &[u8]) -> Result<(), LineEnd>
         requires { IsDraft self.old }
         ensures draft { OnOk result (IsDraft self.new) }
-        ensures text { OnOk result (lines_text (draft_lines self.new) ≡ lines_text (draft_lines self.old) ++ (text.now ++ 10 ∷ [])) }
+        ensures text { OnOk result
+            (lines_text (draft_lines self.new) ≡ lines_text (draft_lines self.old) ++ (text.now ++ 10 ∷ [])) }
         ensures read { OnOk result (read_line self.old.progress text.now ≡ Ok self.new.progress) }
         ensures fault { IfErr result (λ end. Fails end (read_line self.old.progress text.now)) }
     {
@@ -180,7 +181,8 @@ impl Draft {
         requires version { version ≡ self.old.progress.form.version }
         requires line { IsLine (record { kind = line_kind.Send version word; values = map value_view values.items }) }
         requires fits { values_fit (fields_of (line_kind.Send version word)) (map value_view values.items) ≡ true }
-        ensures { OnOk result (AddsItem (record { kind = line_kind.Send version word; values = map value_view values.items }) self.old self.new) }
+        ensures { OnOk result
+            (AddsItem (record { kind = line_kind.Send version word; values = map value_view values.items }) self.old self.new) }
     {
         let cid = identifier_at(values.as_slice(), 0) as u32;
         let command = command_of(alloc, version, word, values)?;
@@ -195,7 +197,8 @@ impl Draft {
         requires version { version ≡ self.old.progress.form.version }
         requires line { IsLine (record { kind = line_kind.Take version; values = map value_view values.now }) }
         requires fits { values_fit (fields_of (line_kind.Take version)) (map value_view values.now) ≡ true }
-        ensures { OnOk result (AddsItem (record { kind = line_kind.Take version; values = map value_view values.now }) self.old self.new) }
+        ensures { OnOk result
+            (AddsItem (record { kind = line_kind.Take version; values = map value_view values.now }) self.old self.new) }
     {
         let cid = identifier_at(values, 0) as u32;
         self.items.push(Item::Take { cid })?;
@@ -213,7 +216,8 @@ impl Draft {
         requires line { IsLine (record { kind = line_kind.Show kind; values = map value_view values.now }) }
         requires fits { values_fit (fields_of (line_kind.Show kind)) (map value_view values.now) ≡ true }
         requires inside { number_at (map value_view values.now) 1 + number_at (map value_view values.now) 2 ≤ MAX_NAMESPACE }
-        ensures { OnOk result (AddsShow (record { kind = line_kind.Show kind; values = map value_view values.now }) self.old self.new) }
+        ensures { OnOk result
+            (AddsShow (record { kind = line_kind.Show kind; values = map value_view values.now }) self.old self.new) }
     {
         let space = space_of(kind, number_at(values, 0) as u32);
         let range = ByteRange::new(space, number_at(values, 1), number_at(values, 2)).unwrap();

@@ -9,8 +9,10 @@ pub fn faults_by_example()
     ensures no_newline { first_fault (codes "nvmecp 1 block=512 depth=16 budget=1") ≡ fault_at 1 cause.Word }
     ensures header { first_fault (codes "nvmecp 1 block=512 depth=16 budget=1" ++ 10 ∷ []) ≡ None }
     ensures block { first_fault (codes "nvmecp 1 block=513 depth=16 budget=1" ++ 10 ∷ []) ≡ fault_at 1 cause.Limit }
-    ensures leading_zero { first_fault (codes "nvmecp 1 block=0512 depth=16 budget=1" ++ 10 ∷ []) ≡ fault_at 1 cause.Number }
+    ensures leading_zero { first_fault (codes "nvmecp 1 block=0512 depth=16 budget=1" ++ 10 ∷ [])
+        ≡ fault_at 1 cause.Number }
     ensures version { first_fault (codes "nvmecp 2 block=512 depth=16 budget=1" ++ 10 ∷ []) ≡ fault_at 1 cause.Field }
-    ensures empty_line { first_fault (codes "nvmecp 1 block=512 depth=16 budget=1" ++ 10 ∷ 10 ∷ []) ≡ fault_at 2 cause.Word }
+    ensures empty_line { first_fault (codes "nvmecp 1 block=512 depth=16 budget=1" ++ 10 ∷ 10 ∷ [])
+        ≡ fault_at 2 cause.Word }
     ensures two_causes { first_fault (codes "nvmecp 1 block=0512 depth=16" ++ 10 ∷ []) ≡ fault_at 1 cause.Field }
 {}

@@ -25,6 +25,8 @@ pub fn script_laws()
 /// commands than its version allows, and each to one of its queues.
 pub fn limit_laws()
     ensures hosts { (script : Script) → KeepsOrderAndLimits script → HaveHosts script.phases }
-    ensures sends { (script : Script) → KeepsOrderAndLimits script → sends_in_phases script.phases ≤ (limits_of script.form.version).sends }
-    ensures queues { (script : Script) → KeepsOrderAndLimits script → PhasesSendToQueues (queues_of script.form) script.phases }
+    ensures sends { (script : Script) → KeepsOrderAndLimits script
+        → sends_in_phases script.phases ≤ (limits_of script.form.version).sends }
+    ensures queues { (script : Script) → KeepsOrderAndLimits script
+        → PhasesSendToQueues (queues_of script.form) script.phases }
 {}

@@ -35,7 +35,8 @@ pub fn with_namespace(config: &Config, kind: SpaceKind, number: u64, size: u64) 
     requires limits { IsWithinLimits config.now }
     requires number { (1 ≤ number) × (number ≤ NAMESPACES) }
     requires size { (1 ≤ size) × (size ≤ MAX_NAMESPACE) }
-    ensures { result ≡ (if namespace_fits (size_in_bytes config.now kind size) (with_size config.now (space_of kind number) size)
+    ensures { result
+        ≡ (if namespace_fits (size_in_bytes config.now kind size) (with_size config.now (space_of kind number) size)
         then Some (with_size config.now (space_of kind number) size)
         else None) }
 {

@@ -53,7 +53,8 @@ pub fn parse(alloc: Global, text: &Bytes) -> Result<Script, ParseEnd>
 fn add_line(alloc: Global, draft: &mut Draft, line: &[u8], number: u32) -> Result<(), ParseEnd>
     requires { IsDraft draft.old }
     ensures draft { OnOk result (IsDraft draft.new) }
-    ensures text { OnOk result (lines_text (draft_lines draft.new) ≡ lines_text (draft_lines draft.old) ++ (line.now ++ 10 ∷ [])) }
+    ensures text { OnOk result
+        (lines_text (draft_lines draft.new) ≡ lines_text (draft_lines draft.old) ++ (line.now ++ 10 ∷ [])) }
     ensures read { OnOk result (read_line draft.old.progress line.now ≡ Ok draft.new.progress) }
     ensures fault { IfErr result (λ end. Faults number end (read_line draft.old.progress line.now)) }
 {

@@ -82,7 +82,8 @@ fn push_sizes(out: &mut Bytes, kind: SpaceKind, sizes: &[u32]) -> Result<(), NoM
 
 // Adds the line of a size, where it is not 0.
 fn push_size(out: &mut Bytes, kind: SpaceKind, number: u32, size: u32) -> Result<(), NoMemory>
-    ensures { OnOk result (Prints (size_lines (line_kind.Namespace kind) number (size ∷ [])) out.old.items out.new.items) }
+    ensures { OnOk result
+        (Prints (size_lines (line_kind.Namespace kind) number (size ∷ [])) out.old.items out.new.items) }
 {
     if size == 0 {
         return Ok(());

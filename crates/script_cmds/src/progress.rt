@@ -52,7 +52,8 @@ fn follows(last: SpaceKind, before: u64, kind: SpaceKind, number: u64) -> bool
 
 // Whether each queue that is named is one of so many.
 fn are_within(queues: u64, values: &[FieldValue]) -> bool
-    ensures { result ≡ list_all (λ (value : FieldValue). nat_le (queue_in (Some (value_view value))) queues) values.now }
+    ensures { result
+        ≡ list_all (λ (value : FieldValue). nat_le (queue_in (Some (value_view value))) queues) values.now }
 {
     values.iter().all(|value| value.queue() <= queues)
 }
@@ -261,7 +262,8 @@ impl Progress {
     }
 
     fn with_phase(&self) -> Option<Progress>
-        ensures { result ≡ (if nat_lt self.now.phases (limits_of self.now.form.version).phases then Some (record self.now { stage = stage.InPhase; phases = self.now.phases + 1 }) else None) }
+        ensures { result
+            ≡ (if nat_lt self.now.phases (limits_of self.now.form.version).phases then Some (record self.now { stage = stage.InPhase; phases = self.now.phases + 1 }) else None) }
     {
         if self.phases >= self.limits().phases {
             return None;
@@ -274,7 +276,8 @@ impl Progress {
     }
 
     fn with_send(&self, values: &[FieldValue]) -> Option<Progress>
-        ensures { result ≡ (if nat_lt self.now.sends (limits_of self.now.form.version).sends && names_queues self.now.form.queues (map value_view values.now) then Some (record self.now { sends = self.now.sends + 1 }) else None) }
+        ensures { result
+            ≡ (if nat_lt self.now.sends (limits_of self.now.form.version).sends && names_queues self.now.form.queues (map value_view values.now) then Some (record self.now { sends = self.now.sends + 1 }) else None) }
     {
         if self.sends >= self.limits().sends || !self.has_queues(values) {
             return None;
@@ -286,7 +289,8 @@ impl Progress {
     }
 
     fn with_take(&self, values: &[FieldValue]) -> Option<Progress>
-        ensures { result ≡ (if names_queues self.now.form.queues (map value_view values.now) then Some self.now else None) }
+        ensures { result
+            ≡ (if names_queues self.now.form.queues (map value_view values.now) then Some self.now else None) }
     {
         if self.has_queues(values) {
             Some(*self)
@@ -296,7 +300,8 @@ impl Progress {
     }
 
     fn with_show(&self, are_there: bool) -> Option<Progress>
-        ensures { result ≡ (if nat_lt self.now.shows (limits_of self.now.form.version).shows && are_there then Some (record self.now { stage = stage.AfterShow; shows = self.now.shows + 1 }) else None) }
+        ensures { result
+            ≡ (if nat_lt self.now.shows (limits_of self.now.form.version).shows && are_there then Some (record self.now { stage = stage.AfterShow; shows = self.now.shows + 1 }) else None) }
     {
         if self.shows >= self.limits().shows || !are_there {
             return None;

@@ -59,10 +59,13 @@ value_text (Covered ranges) = joined_by 44 (map range_text ranges)
 abbrev pub field_texts : List Field → List Value → List (List ℕ)
 field_texts (Word text ∷ fields) values = text ∷ field_texts fields values
 field_texts (Number name least most ∷ fields) (Count n ∷ values) = (name ++ decimal n) ∷ field_texts fields values
-field_texts (Identifier name ∷ fields) (Queued queue cid ∷ values) = (name ++ queued_text queue cid) ∷ field_texts fields values
+field_texts (Identifier name ∷ fields) (Queued queue cid ∷ values) =
+    (name ++ queued_text queue cid) ∷ field_texts fields values
 field_texts (Hex name ∷ fields) (Data bytes ∷ values) = (name ++ hex_text bytes) ∷ field_texts fields values
-field_texts (Sources name ∷ fields) (Copied sources ∷ values) = (name ++ joined_by 44 (map source_text sources)) ∷ field_texts fields values
-field_texts (Ranges name ∷ fields) (Covered ranges ∷ values) = (name ++ joined_by 44 (map range_text ranges)) ∷ field_texts fields values
+field_texts (Sources name ∷ fields) (Copied sources ∷ values) =
+    (name ++ joined_by 44 (map source_text sources)) ∷ field_texts fields values
+field_texts (Ranges name ∷ fields) (Covered ranges ∷ values) =
+    (name ++ joined_by 44 (map range_text ranges)) ∷ field_texts fields values
 field_texts _ _ = []
 
 -- values of the kinds that the fields name, one for each field that is no word

@@ -46,7 +46,8 @@ command_fields version word.MemFill =
 command_fields version word.MemCopy = narrow (codes "ns=") ∷ wide (codes "at=") ∷ Sources (codes "from=") ∷ []
 command_fields version word.SetCreate = Ranges (codes "ranges=") ∷ []
 command_fields version word.SetDelete = narrow (codes "set=") ∷ []
-command_fields version word.Load = narrow (codes "slot=") ∷ wide (codes "size=") ∷ wide (codes "at=") ∷ Hex (codes "data=") ∷ []
+command_fields version word.Load =
+    narrow (codes "slot=") ∷ wide (codes "size=") ∷ wide (codes "at=") ∷ Hex (codes "data=") ∷ []
 command_fields version word.Unload = narrow (codes "slot=") ∷ []
 command_fields version word.Activate = narrow (codes "slot=") ∷ []
 command_fields version word.Deactivate = narrow (codes "slot=") ∷ []
@@ -83,7 +84,8 @@ fields_of (Header version) = Word (codes "nvmecp") ∷ header_fields version
 fields_of (Namespace kind) = Word (space_text kind) ∷ space_number ∷ Number (size_name kind) 1 MAX_NAMESPACE ∷ []
 fields_of Phase = Word (codes "phase") ∷ []
 fields_of Host = Word (codes "host") ∷ Number [] 1 MAX_HOSTS ∷ []
-fields_of (Send version word) = Word (codes "send") ∷ identifier_field version [] ∷ Word (word_text word) ∷ command_fields version word
+fields_of (Send version word) =
+    Word (codes "send") ∷ identifier_field version [] ∷ Word (word_text word) ∷ command_fields version word
 fields_of (Take version) = Word (codes "take") ∷ identifier_field version [] ∷ []
 fields_of (Show kind) =
     Word (codes "show") ∷ Word (space_text kind) ∷ space_number ∷ wide (codes "at=") ∷ Number (codes "len=") 1 MAX_TRANSFER ∷ []

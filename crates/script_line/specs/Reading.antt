@@ -101,7 +101,8 @@ read_source (kind ∷ text) =
 -- three numbers, and where an r stands behind them the range is read only
 abbrev pub range_in : List (List ℕ) → Result MemRange TextCause
 range_in (a ∷ b ∷ c ∷ []) = changed (mem_range access.ReadWrite) (read_three_numbers a b c)
-range_in (a ∷ b ∷ c ∷ d ∷ []) = if bytes_eq d (codes "r") then changed (mem_range access.ReadOnly) (read_three_numbers a b c) else Err cause.Field
+range_in (a ∷ b ∷ c ∷ d ∷ []) =
+    if bytes_eq d (codes "r") then changed (mem_range access.ReadOnly) (read_three_numbers a b c) else Err cause.Field
 range_in _ = Err cause.Field
 
 abbrev pub read_range : List ℕ → Result MemRange TextCause
@@ -121,16 +122,22 @@ abbrev pub read_field : Field → List ℕ → Result (List Value) TextCause
 read_field (Word word) text = if bytes_eq text word then Ok [] else Err cause.Field
 read_field (Number name least most) text = changed (λ n. Count n ∷ []) (read_behind read_number (after_name name text))
 read_field (Identifier name) text = changed (λ value. value ∷ []) (read_behind read_queued (after_name name text))
-read_field (Hex name) text = changed (λ bytes. Data bytes ∷ []) (read_behind (λ t. or_cause cause.Hex (hex_of t)) (after_name name text))
-read_field (Sources name) text = changed (λ sources. Copied sources ∷ []) (read_behind (λ t. read_each read_source (parts_between 44 t)) (after_name name text))
-read_field (Ranges name) text = changed (λ ranges. Covered ranges ∷ []) (read_behind (λ t. read_each read_range (parts_between 44 t)) (after_name name text))
+read_field (Hex name) text =
+    changed (λ bytes. Data bytes ∷ []) (read_behind (λ t. or_cause cause.Hex (hex_of t)) (after_name name text))
+read_field (Sources name) text =
+    changed (λ sources. Copied sources ∷ [])
+    (read_behind (λ t. read_each read_source (parts_between 44 t)) (after_name name text))
+read_field (Ranges name) text =
+    changed (λ ranges. Covered ranges ∷ [])
+    (read_behind (λ t. read_each read_range (parts_between 44 t)) (after_name name text))
 
 -- what the fields of a line say; all of them have to be there and no other
 abbrev pub read_fields : List Field → List (List ℕ) → Result (List Value) TextCause
 read_fields [] [] = Ok []
 read_fields [] (text ∷ texts) = Err cause.Field
 read_fields (field ∷ fields) [] = Err cause.Field
-read_fields (field ∷ fields) (text ∷ texts) = both (λ xs ys. xs ++ ys) (read_field field text) (read_fields fields texts)
+read_fields (field ∷ fields) (text ∷ texts) =
+    both (λ xs ys. xs ++ ys) (read_field field text) (read_fields fields texts)
 
 -- the kind of a header by the fields after its first: the version that it states; where it states none, the
 -- field that does so is looked at as in version 1

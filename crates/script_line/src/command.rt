@@ -29,7 +29,8 @@ pub fn command_of(
     requires shaped { IsShaped (fields_of (line_kind.Send version word)) (map value_view values.items) }
     requires sized { All IsSized (map value_view values.items) }
     requires fits { values_fit (fields_of (line_kind.Send version word)) (map value_view values.items) ≡ true }
-    ensures values { IfOk result (λ c. send_values version (identifier_at (map value_view values.items) 0) c ≡ map value_view values.items) }
+    ensures values { IfOk result
+        (λ c. send_values version (identifier_at (map value_view values.items) 0) c ≡ map value_view values.items) }
     ensures word { IfOk result (λ c. word_of c ≡ word) }
 {
     let mut values = values;

@@ -147,7 +147,8 @@ fn push_field(
 ) -> Result<usize, NoMemory>
     ensures { IfOk result (λ next. (more : List grammar.Field)
         → IsShaped (field_view field ∷ more) (map content_view (drop place contents.now))
-        → PrintsFields before.now (32 ∷ []) (field_view field ∷ more) more (map content_view (drop place contents.now)) (map content_view (drop next contents.now)) out.old.items out.new.items) }
+        → PrintsFields before.now (32 ∷ []) (field_view field ∷ more) more (map content_view (drop place contents.now))
+        (map content_view (drop next contents.now)) out.old.items out.new.items) }
 {
     push_piece(out, before)?;
     push_piece(out, field.front())?;
@@ -166,7 +167,8 @@ fn push_field(
 // Adds fields with one space between two. Those that are no words take these contents.
 fn push_fields(out: &mut Bytes, fields: &[Field], contents: &[FieldContent]) -> Result<(), NoMemory>
     requires { IsShaped (map field_view fields.now) (map content_view contents.now) }
-    ensures { OnOk result (PrintsFields [] (32 ∷ []) (map field_view fields.now) [] (map content_view contents.now) [] out.old.items out.new.items) }
+    ensures { OnOk result
+        (PrintsFields [] (32 ∷ []) (map field_view fields.now) [] (map content_view contents.now) [] out.old.items out.new.items) }
 {
     let mut before: &[u8] = b"";
     let mut place = 0;
@@ -180,7 +182,8 @@ fn push_fields(out: &mut Bytes, fields: &[Field], contents: &[FieldContent]) -> 
 /// Adds a line with its newline. There is a content for each of its fields that is no word.
 pub fn push_line(out: &mut Bytes, kind: LineKind, contents: &[FieldContent]) -> Result<(), NoMemory>
     requires { IsShaped (fields_of kind) (map content_view contents.now) }
-    ensures { OnOk result (PrintsLine (record { kind = kind; values = map content_view contents.now }) out.old.items out.new.items) }
+    ensures { OnOk result
+        (PrintsLine (record { kind = kind; values = map content_view contents.now }) out.old.items out.new.items) }
 {
     push_fields(out, kind.fields(), contents)?;
     push_piece(out, b"\n")?;

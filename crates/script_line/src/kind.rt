@@ -117,7 +117,8 @@ impl LineKind {
     /// missing.
     pub fn cut(version: Version, line: &[u8]) -> Result<CutLine, TextCause>
         ensures kind { changed (λ cut. cut.kind) result ≡ kind_of version (parts_between 32 line.now) }
-        ensures rest { IfOk result (λ cut. read_fields (fields_of cut.kind) (parts_between 32 line.now) ≡ read_rest cut) }
+        ensures rest { IfOk result
+            (λ cut. read_fields (fields_of cut.kind) (parts_between 32 line.now) ≡ read_rest cut) }
     {
         let (word, rest) = split_part(line, b' ');
         if word == b"nvmecp".as_slice() {
@@ -296,8 +297,10 @@ fn stated_version(rest: Option<&[u8]>) -> Version
 // A send line, by what stands behind its first field.
 #[tactic(auto, using(crate::proofs::Heads::send_rest))]
 fn cut_send(version: Version, rest: Option<&[u8]>) -> Result<CutLine, TextCause>
-    ensures kind { changed (λ cut. cut.kind) result ≡ send_kind version (parts_in 32 (option_map (λ text. text.now) rest.entry)) }
-    ensures rest { IfOk result (λ cut. read_fields (fields_of cut.kind) (codes "send" ∷ parts_in 32 (option_map (λ text. text.now) rest.entry)) ≡ read_rest cut) }
+    ensures kind { changed (λ cut. cut.kind) result
+        ≡ send_kind version (parts_in 32 (option_map (λ text. text.now) rest.entry)) }
+    ensures rest { IfOk result
+        (λ cut. read_fields (fields_of cut.kind) (codes "send" ∷ parts_in 32 (option_map (λ text. text.now) rest.entry)) ≡ read_rest cut) }
 {
     let Some(fields) = rest else {
         return Err(TextCause::Field);
@@ -320,8 +323,10 @@ fn cut_send(version: Version, rest: Option<&[u8]>) -> Result<CutLine, TextCause>
 // A show line, by what stands behind its first field.
 #[tactic(auto, using(crate::proofs::Heads::word_first, crate::proofs::Heads::nothing_first))]
 fn cut_show(rest: Option<&[u8]>) -> Result<CutLine, TextCause>
-    ensures kind { changed (λ cut. cut.kind) result ≡ show_kind (parts_in 32 (option_map (λ text. text.now) rest.entry)) }
-    ensures rest { IfOk result (λ cut. read_fields (fields_of cut.kind) (codes "show" ∷ parts_in 32 (option_map (λ text. text.now) rest.entry)) ≡ read_rest cut) }
+    ensures kind { changed (λ cut. cut.kind) result
+        ≡ show_kind (parts_in 32 (option_map (λ text. text.now) rest.entry)) }
+    ensures rest { IfOk result
+        (λ cut. read_fields (fields_of cut.kind) (codes "show" ∷ parts_in 32 (option_map (λ text. text.now) rest.entry)) ≡ read_rest cut) }
 {
     let Some(fields) = rest else {
         return Err(TextCause::Field);

@@ -22,7 +22,8 @@ pub fn line_laws()
         → (line_text line ≡ text) × IsLine line × IsOfVersion version line.kind }
     ensures read_so { (version : Version) (line : Line) → IsLine line → IsOfVersion version line.kind
         → line_of version (line_text line) ≡ Ok line }
-    ensures one_line { (version : Version) (a b : Line) → IsLine a → IsLine b → IsOfVersion version a.kind → IsOfVersion version b.kind
+    ensures one_line { (version : Version) (a b : Line) → IsLine a → IsLine b → IsOfVersion version a.kind
+        → IsOfVersion version b.kind
         → line_text a ≡ line_text b → a ≡ b }
     ensures no_newline { (line : Line) → IsLine line → lacks 10 (line_text line) ≡ true }
     ensures sent { (version : Version) (cid : ℕ) (command : Command)
@@ -62,6 +63,8 @@ pub fn limits_by_example()
     ensures value { MAX_VALUE ≡ 255 }
     ensures small { MAX_32 + 1 ≡ 2 ^ 32 }
     ensures large { MAX_64 + 1 ≡ 2 ^ 64 }
-    ensures version_1 { VERSION_1 ≡ record { bytes = 33554432; sends = 16384; phases = 1024; shows = 1024; queues = 1; depth = 256; outstanding = 256; budget = 10000000 } }
-    ensures version_2 { VERSION_2 ≡ record { bytes = 33554432; sends = 65536; phases = 4096; shows = 4096; queues = 16; depth = 1024; outstanding = 4096; budget = 100000000 } }
+    ensures version_1 { VERSION_1
+        ≡ record { bytes = 33554432; sends = 16384; phases = 1024; shows = 1024; queues = 1; depth = 256; outstanding = 256; budget = 10000000 } }
+    ensures version_2 { VERSION_2
+        ≡ record { bytes = 33554432; sends = 65536; phases = 4096; shows = 4096; queues = 16; depth = 1024; outstanding = 4096; budget = 100000000 } }
 {}

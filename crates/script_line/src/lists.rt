@@ -48,7 +48,8 @@ type Parts<'a> = (&'a [u8], &'a [u8], &'a [u8], Option<&'a [u8]>);
 
 // The first three parts of a text between colons, and what stands behind them.
 fn three_parts(text: &[u8]) -> Option<Parts>
-    ensures { MatchOption result (IsShort (parts_between 58 text.now)) (λ p. parts_between 58 text.now ≡ p.0.now ∷ p.1.now ∷ p.2.now ∷ parts_in 58 (option_map (λ t. t.now) p.3)) }
+    ensures { MatchOption result (IsShort (parts_between 58 text.now))
+        (λ p. parts_between 58 text.now ≡ p.0.now ∷ p.1.now ∷ p.2.now ∷ parts_in 58 (option_map (λ t. t.now) p.3)) }
 {
     let (ns, rest) = split_part(text, b':');
     let (start, rest) = split_part(rest?, b':');
@@ -118,7 +119,8 @@ fn read_range(text: &[u8]) -> Result<RangeText, LineEnd>
 // What a program may do with a range, by what stands behind the three numbers.
 #[tactic(auto, using(crate::proofs::Triples::five_parts))]
 fn access_of(rest: Option<&[u8]>) -> Option<Access>
-    ensures { (a b c : List ℕ) → range_in (a ∷ b ∷ c ∷ parts_in 58 (option_map (λ t. t.now) rest.entry)) ≡ range_with result a b c }
+    ensures { (a b c : List ℕ)
+        → range_in (a ∷ b ∷ c ∷ parts_in 58 (option_map (λ t. t.now) rest.entry)) ≡ range_with result a b c }
 {
     let Some(text) = rest else {
         return Some(Access::ReadWrite);
@@ -142,7 +144,8 @@ pub fn noted(fault: Option<TextCause>, cause: TextCause) -> Option<TextCause>
 
 /// Sources by their text.
 pub fn read_sources(alloc: Global, text: &[u8]) -> Result<Vec<SourceText>, LineEnd>
-    ensures { ReadsAs (λ sources. map source_view sources.items) result (read_each read_source (parts_between 44 text.now)) }
+    ensures { ReadsAs (λ sources. map source_view sources.items) result
+        (read_each read_source (parts_between 44 text.now)) }
 {
     let mut sources = Vec::new(alloc);
     let mut fault = None;
@@ -180,7 +183,8 @@ fn take_source(
 
 /// Ranges by their text.
 pub fn read_ranges(alloc: Global, text: &[u8]) -> Result<Vec<RangeText>, LineEnd>
-    ensures { ReadsAs (λ ranges. map range_view ranges.items) result (read_each read_range (parts_between 44 text.now)) }
+    ensures { ReadsAs (λ ranges. map range_view ranges.items) result
+        (read_each read_range (parts_between 44 text.now)) }
 {
     let mut ranges = Vec::new(alloc);
     let mut fault = None;

@@ -53,7 +53,10 @@ fn read_values(alloc: Global, line: CutLine) -> Result<Vec<FieldValue>, LineEnd>
 #[tactic(auto, using(crate::proofs::Heads::nothing_first))]
 fn read_identifier(alloc: Global, line: CutLine) -> Result<Reading, NoMemory>
     ensures read { IfOk result (λ reading. (more : Result (List Value) TextCause)
-        → reading_outcome reading more ≡ both (λ xs ys. xs ++ ys) (read_identifier (version_of line.entry.kind) (option_map (λ text. text.now) line.entry.identifier)) more) }
+        → reading_outcome reading more
+        ≡ both
+        (λ xs ys. xs ++ ys)
+        (read_identifier (version_of line.entry.kind) (option_map (λ text. text.now) line.entry.identifier)) more) }
     ensures rest { IfOk result (λ reading. reading.rest ≡ line.entry.rest) }
 {
     let mut reading = Reading::new(alloc, line.rest);
@@ -166,7 +169,8 @@ impl<'a> Reading<'a> {
     // Reads a field by its text.
     fn read(&mut self, alloc: Global, field: Field, text: &[u8]) -> Result<(), NoMemory>
         ensures read { OnOk result ((more : Result (List Value) TextCause)
-            → reading_outcome self.new more ≡ reading_outcome self.old (both (λ xs ys. xs ++ ys) (read_field (field_view field) text.now) more)) }
+            → reading_outcome self.new more
+            ≡ reading_outcome self.old (both (λ xs ys. xs ++ ys) (read_field (field_view field) text.now) more)) }
         ensures rest { OnOk result (self.new.rest ≡ self.old.rest) }
     {
         match read_field(alloc, field, text) {

@@ -94,7 +94,8 @@ fn push_part(
     len: u64,
 ) -> Result<(), NoMemory>
     requires { IsShaped (fields_of kind) (content_view id ∷ counts (ns ∷ start ∷ len ∷ [])) }
-    ensures { OnOk result (PrintsLine (record { kind = kind; values = content_view id.entry ∷ counts (ns ∷ start ∷ len ∷ []) }) out.old.items out.new.items) }
+    ensures { OnOk result
+        (PrintsLine (record { kind = kind; values = content_view id.entry ∷ counts (ns ∷ start ∷ len ∷ []) }) out.old.items out.new.items) }
 {
     push_line(out, kind, &[id, small(ns), Count(start), Count(len)])
 }
@@ -108,8 +109,10 @@ fn push_write(
     start: u64,
     bytes: &Bytes,
 ) -> Result<(), NoMemory>
-    requires { IsShaped (fields_of kind) (content_view id ∷ counts (ns ∷ start ∷ []) ++ grammar.Data bytes.now.items ∷ []) }
-    ensures { OnOk result (PrintsLine (record { kind = kind; values = content_view id.entry ∷ counts (ns ∷ start ∷ []) ++ grammar.Data bytes.now.items ∷ [] }) out.old.items out.new.items) }
+    requires { IsShaped (fields_of kind)
+        (content_view id ∷ counts (ns ∷ start ∷ []) ++ grammar.Data bytes.now.items ∷ []) }
+    ensures { OnOk result
+        (PrintsLine (record { kind = kind; values = content_view id.entry ∷ counts (ns ∷ start ∷ []) ++ grammar.Data bytes.now.items ∷ [] }) out.old.items out.new.items) }
 {
     push_line(out, kind, &[id, small(ns), Count(start), Data(bytes)])
 }
@@ -124,7 +127,8 @@ fn push_copy(
     from: &SourceList,
 ) -> Result<(), NoMemory>
     requires { IsShaped (fields_of kind) (content_view id ∷ counts (ns ∷ start ∷ []) ++ grammar.Copied from.now ∷ []) }
-    ensures { OnOk result (PrintsLine (record { kind = kind; values = content_view id.entry ∷ counts (ns ∷ start ∷ []) ++ grammar.Copied from.now ∷ [] }) out.old.items out.new.items) }
+    ensures { OnOk result
+        (PrintsLine (record { kind = kind; values = content_view id.entry ∷ counts (ns ∷ start ∷ []) ++ grammar.Copied from.now ∷ [] }) out.old.items out.new.items) }
 {
     push_line(out, kind, &[id, small(ns), Count(start), Copied(from)])
 }
@@ -139,7 +143,8 @@ fn push_fill(
     value: u8,
 ) -> Result<(), NoMemory>
     requires { IsShaped (fields_of kind) (content_view id ∷ counts (ns ∷ (part ++ value ∷ []))) }
-    ensures { OnOk result (PrintsLine (record { kind = kind; values = content_view id.entry ∷ counts (ns ∷ (part ++ value ∷ [])) }) out.old.items out.new.items) }
+    ensures { OnOk result
+        (PrintsLine (record { kind = kind; values = content_view id.entry ∷ counts (ns ∷ (part ++ value ∷ [])) }) out.old.items out.new.items) }
 {
     let [at, len] = part;
     let value = small(u32::from(value));
@@ -155,8 +160,10 @@ fn push_load(
     numbers: [u64; 2],
     bytes: &Bytes,
 ) -> Result<(), NoMemory>
-    requires { IsShaped (fields_of kind) (content_view id ∷ counts (slot ∷ numbers) ++ grammar.Data bytes.now.items ∷ []) }
-    ensures { OnOk result (PrintsLine (record { kind = kind; values = content_view id.entry ∷ counts (slot ∷ numbers) ++ grammar.Data bytes.now.items ∷ [] }) out.old.items out.new.items) }
+    requires { IsShaped (fields_of kind)
+        (content_view id ∷ counts (slot ∷ numbers) ++ grammar.Data bytes.now.items ∷ []) }
+    ensures { OnOk result
+        (PrintsLine (record { kind = kind; values = content_view id.entry ∷ counts (slot ∷ numbers) ++ grammar.Data bytes.now.items ∷ [] }) out.old.items out.new.items) }
 {
     let [size, at] = numbers;
     push_line(
@@ -175,7 +182,8 @@ fn push_execute(
     numbers: [u64; 3],
 ) -> Result<(), NoMemory>
     requires { IsShaped (fields_of kind) (content_view id ∷ counts (tables ++ numbers)) }
-    ensures { OnOk result (PrintsLine (record { kind = kind; values = content_view id.entry ∷ counts (tables ++ numbers) }) out.old.items out.new.items) }
+    ensures { OnOk result
+        (PrintsLine (record { kind = kind; values = content_view id.entry ∷ counts (tables ++ numbers) }) out.old.items out.new.items) }
 {
     let [slot, set] = tables;
     let [p1, p2, budget] = numbers;

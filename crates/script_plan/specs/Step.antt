@@ -13,7 +13,8 @@ sent_after depth outstanding cid =
 
 -- the same after a take
 abbrev pub taken_after : List ℕ → ℕ → Result (List ℕ) Breach
-taken_after outstanding cid = if is_outstanding cid outstanding then Ok (without cid outstanding) else Err NotOutstanding
+taken_after outstanding cid =
+    if is_outstanding cid outstanding then Ok (without cid outstanding) else Err NotOutstanding
 
 -- the same after an item
 abbrev pub outstanding_after : ℕ → List ℕ → Item → Result (List ℕ) Breach

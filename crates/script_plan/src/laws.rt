@@ -14,7 +14,8 @@ ghost use Rattle.history_model.specs.Text.{history_text};
 pub fn scripts_have_sized_histories()
     ensures sized { (script : Script) (plan : _) (history : _) → AreSized (lines_of script) → KeepsOrderAndLimits script
         → plan_of script ≡ Ok plan → IsLegal script.config plan history → All IsSizedEntry history }
-    ensures told { (script : Script) (plan : _) (one other : _) → AreSized (lines_of script) → KeepsOrderAndLimits script
+    ensures told { (script : Script) (plan : _) (one other : _) → AreSized (lines_of script)
+        → KeepsOrderAndLimits script
         → plan_of script ≡ Ok plan → IsLegal script.config plan one → IsLegal script.config plan other
         → history_text script.config script.shows one ≡ history_text script.config script.shows other → one ≡ other }
 {}
@@ -22,6 +23,8 @@ pub fn scripts_have_sized_histories()
 /// The lines of a script tell its first breach of a rule of queues: scripts with the same lines have the
 /// same fault, or a plan each.
 pub fn lines_tell_the_fault()
-    ensures one_fault { (a b : Script) (f g : PlanFault) → lines_of a ≡ lines_of b → plan_of a ≡ Err f → plan_of b ≡ Err g → f ≡ g }
-    ensures plan_or_fault { (a b : Script) (plan : _) (f : PlanFault) → lines_of a ≡ lines_of b → plan_of a ≡ Ok plan → plan_of b ≡ Err f → ⊥ }
+    ensures one_fault { (a b : Script) (f g : PlanFault) → lines_of a ≡ lines_of b → plan_of a ≡ Err f
+        → plan_of b ≡ Err g → f ≡ g }
+    ensures plan_or_fault { (a b : Script) (plan : _) (f : PlanFault) → lines_of a ≡ lines_of b → plan_of a ≡ Ok plan
+        → plan_of b ≡ Err f → ⊥ }
 {}

@@ -30,7 +30,8 @@ fn fault(line: u32, cause: PlanCause) -> PlanEnd
 // A command is sent: it needs a place in its queue, which has this depth, and an identifier of its own.
 fn send(outstanding: &mut Outstanding, depth: u32, line: u32, cid: u32) -> Result<(), PlanEnd>
     ensures ok { OnOk result (sent_after depth outstanding.old cid ≡ Ok outstanding.new) }
-    ensures err { IfErr result (λ end. ForFault end (λ f. (f.line ≡ line) × (sent_after depth outstanding.old cid ≡ Err f.breach))) }
+    ensures err { IfErr result
+        (λ end. ForFault end (λ f. (f.line ≡ line) × (sent_after depth outstanding.old cid ≡ Err f.breach))) }
 {
     if outstanding.in_queue_of(cid) >= depth {
         return Err(fault(line, PlanCause::QueueFull));
@@ -45,7 +46,8 @@ fn send(outstanding: &mut Outstanding, depth: u32, line: u32, cid: u32) -> Resul
 // A command is taken: it has to be outstanding.
 fn take(outstanding: &mut Outstanding, line: u32, cid: u32) -> Result<(), PlanEnd>
     ensures ok { OnOk result (taken_after outstanding.old cid ≡ Ok outstanding.new) }
-    ensures err { IfErr result (λ end. ForFault end (λ f. (f.line ≡ line) × (taken_after outstanding.old cid ≡ Err f.breach))) }
+    ensures err { IfErr result
+        (λ end. ForFault end (λ f. (f.line ≡ line) × (taken_after outstanding.old cid ≡ Err f.breach))) }
 {
     if !outstanding.remove(cid) {
         return Err(fault(line, PlanCause::NotOutstanding));
@@ -62,7 +64,8 @@ fn planned_item(
 ) -> Result<Item, PlanEnd>
     ensures same { IfOk result (λ planned. plain_item planned ≡ plain_item item.now) }
     ensures ok { OnOk result (outstanding_after depth outstanding.old item.now ≡ Ok outstanding.new) }
-    ensures err { IfErr result (λ end. ForFault end (λ f. (f.line ≡ line) × (outstanding_after depth outstanding.old item.now ≡ Err f.breach))) }
+    ensures err { IfErr result
+        (λ end. ForFault end (λ f. (f.line ≡ line) × (outstanding_after depth outstanding.old item.now ≡ Err f.breach))) }
 {
     match item {
         Item::Send { cid, command } => {
@@ -79,7 +82,8 @@ fn planned_item(
 
 // A host takes what is outstanding at the end of its part, in order of sending.
 fn push_takes(planned: &mut Vec<Item>, cids: &[u32]) -> Result<(), PlanEnd>
-    ensures ok { OnOk result (plain_items planned.new.items ≡ plain_items planned.old.items ++ map (λ cid. Takes cid) cids.now) }
+    ensures ok { OnOk result
+        (plain_items planned.new.items ≡ plain_items planned.old.items ++ map (λ cid. Takes cid) cids.now) }
     ensures err { IfErr result (λ end. end ≡ PlanEnd.NoMemory) }
 {
     for cid in cids {
@@ -96,7 +100,8 @@ fn planned_items(
     items: &[Item],
 ) -> Result<Sequence<Item>, PlanEnd>
     requires { line + length items.now < 2 ^ 32 }
-    ensures ok { IfOk result (λ planned. meant plain_item (planned_items depth line [] items.now) ≡ Ok (plain_items planned)) }
+    ensures ok { IfOk result
+        (λ planned. meant plain_item (planned_items depth line [] items.now) ≡ Ok (plain_items planned)) }
     ensures err { IfErr result (λ end. ForFault end (λ f. planned_items depth line [] items.now ≡ Err f)) }
 {
     let mut outstanding = Outstanding::new(alloc);
@@ -118,7 +123,8 @@ fn planned_parts(
     parts: &[HostPart],
 ) -> Result<Sequence<HostPart>, PlanEnd>
     requires { line + lines_of_parts parts.now < 2 ^ 32 }
-    ensures ok { IfOk result (λ planned. meant plain_part (planned_parts depth line parts.now) ≡ Ok (plain_parts planned)) }
+    ensures ok { IfOk result
+        (λ planned. meant plain_part (planned_parts depth line parts.now) ≡ Ok (plain_parts planned)) }
     ensures err { IfErr result (λ end. ForFault end (λ f. planned_parts depth line parts.now ≡ Err f)) }
 {
     let mut planned = Vec::new(alloc);
@@ -134,7 +140,8 @@ fn planned_parts(
 // A phase, which needs a host, with its line here.
 fn planned_phase(alloc: Global, depth: u32, line: u32, phase: &Phase) -> Result<Phase, PlanEnd>
     requires { line + 1 + lines_of_parts phase.now.hosts < 2 ^ 32 }
-    ensures ok { IfOk result (λ planned. meant plain_part (planned_hosts depth line phase.now.hosts) ≡ Ok (plain_phase planned)) }
+    ensures ok { IfOk result
+        (λ planned. meant plain_part (planned_hosts depth line phase.now.hosts) ≡ Ok (plain_phase planned)) }
     ensures err { IfErr result (λ end. ForFault end (λ f. planned_hosts depth line phase.now.hosts ≡ Err f)) }
 {
     let parts = phase.hosts.as_slice();
@@ -153,7 +160,8 @@ fn planned_phases(
     phases: &[Phase],
 ) -> Result<Sequence<Phase>, PlanEnd>
     requires { line + lines_of_phases phases.now < 2 ^ 32 }
-    ensures ok { IfOk result (λ planned. meant plain_phase (planned_phases depth line phases.now) ≡ Ok (plain_phases planned)) }
+    ensures ok { IfOk result
+        (λ planned. meant plain_phase (planned_phases depth line phases.now) ≡ Ok (plain_phases planned)) }
     ensures err { IfErr result (λ end. ForFault end (λ f. planned_phases depth line phases.now ≡ Err f)) }
 {
     let mut planned = Vec::new(alloc);
@@ -188,12 +196,15 @@ pub fn plan(alloc: Global, script: &Script) -> Result<Plan, PlanEnd>
     ensures fault { IfErr result (λ end. ForFault end (λ f. plan_of script.now ≡ Err f)) }
 
     // The commands, by name, are those of the definition's plan and of the script, host by host.
-    ensures given { IfOk result (λ plan. (given : _) → plan_of script.now ≡ Ok given → sends_of given ≡ sends_of plan.phases) }
+    ensures given { IfOk result
+        (λ plan. (given : _) → plan_of script.now ≡ Ok given → sends_of given ≡ sends_of plan.phases) }
     ensures sends { IfOk result (λ plan. sends_of plan.phases ≡ sends_of script.now.phases) }
     ensures hosts { IfOk result (λ plan. hosts_by_phase plan.phases ≡ hosts_by_phase script.now.phases) }
     ensures commands { IfOk result (λ plan. plan.commands ≡ length (sends_of plan.phases)) }
-    ensures queues { IfOk result (λ plan. All (KeepEachQueue (queue_depth script.now.form script.now.config.depth)) plan.phases) }
-    ensures rules { KeepsOrderAndLimits script.now → IfOk result (λ plan. All (KeepsRules script.now.config.depth) plan.phases) }
+    ensures queues { IfOk result
+        (λ plan. All (KeepEachQueue (queue_depth script.now.form script.now.config.depth)) plan.phases) }
+    ensures rules { KeepsOrderAndLimits script.now
+        → IfOk result (λ plan. All (KeepsRules script.now.config.depth) plan.phases) }
 {
     let phases = script.phases.as_slice();
     let line = configuration_lines(&script.config) + 1;

@@ -19,4 +19,5 @@ module _ {E F : Type 0} where
     pub rests : v.has_turn ≡ false
     pub counts : v.made ≡ lock.seats
     pub first : (p : Pass E F) → at_home ps 1 ≡ Some p → (v.seen ≡ seen_by p) × (v.mine ≡ made_by p)
-    pub kept : (n : ℕ) (p : Pass E F) → 2 ≤ n → n ≤ count → at_home ps n ≡ Some p → (k : ℕ) × (get_elem? v.kept k ≡ some (account_for n p))
+    pub kept : (n : ℕ) (p : Pass E F) → 2 ≤ n → n ≤ count → at_home ps n ≡ Some p
+        → (k : ℕ) × (get_elem? v.kept k ≡ some (account_for n p))

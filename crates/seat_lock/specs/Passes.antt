@@ -132,7 +132,8 @@ module _ {E F : Type 0} where
   -- all passes of the lock are at home, and new
   pub record AreAllNew (lock : LockName F) (ps : Passes E F) : Type 0 where
     pub seats : seats_in ps ≡ lock.seats
-    pub each : (n : ℕ) → 1 ≤ n → n ≤ seats_in ps → (p : Pass E F) × (at_home ps n ≡ Some p) × IsNewPass lock lock.seats n p
+    pub each : (n : ℕ) → 1 ≤ n → n ≤ seats_in ps
+        → (p : Pass E F) × (at_home ps n ≡ Some p) × IsNewPass lock lock.seats n p
 
   -- the passes have met: all that are at home have seen the same trail
   abbrev pub HaveMet : Passes E F → Type 0

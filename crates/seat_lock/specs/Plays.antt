@@ -50,9 +50,11 @@ module _ {V E F : Type 0} (party : E → ℕ) (entries : V → List E) (fixed : 
   pub record Wins (v : View E F) (x : V) : Type 0 where
     pub short : length (entries x) < 2 ^ 32
     pub seen : BeginsWith (entries x) v.seen
-    pub mine : v.number ≢ 0 → (entries_by party v.number (entries x) ≡ v.mine) × (entries_by party v.number v.seen ≡ v.mine)
+    pub mine : v.number ≢ 0
+        → (entries_by party v.number (entries x) ≡ v.mine) × (entries_by party v.number v.seen ≡ v.mine)
     pub same : (f : F) → v.fixed ≡ Some f → fixed x ≡ f
-    pub kept : (k : ℕ) (a : Account E) → get_elem? v.kept k ≡ some a → BeginsWith (entries x) a.seen × (a.number ≢ 0 → entries_by party a.number (entries x) ≡ a.mine)
+    pub kept : (k : ℕ) (a : Account E) → get_elem? v.kept k ≡ some a
+        → BeginsWith (entries x) a.seen × (a.number ≢ 0 → entries_by party a.number (entries x) ≡ a.mine)
 
   -- a try for the turn, which read this word
   abbrev pub tried : At → Sat → ℕ → Sat → Type 0

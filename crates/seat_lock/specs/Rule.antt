@@ -40,7 +40,9 @@ module _ {E : Type 0} (party : E → ℕ) where
     pub short : length trail < 2 ^ 32
     pub enough : made ≤ about.seats
     pub makers : All (IsMade made) trail
-    pub each : (seat : ℕ) (v : View E F) → get_elem? s.views seat ≡ some v → ViewFits (fixed about.first.value) trail turn made seat_of seat v
+    pub each : (seat : ℕ) (v : View E F) → get_elem? s.views seat ≡ some v
+        → ViewFits (fixed about.first.value) trail turn made seat_of seat v
     pub holder : turn ≢ 0 → (v : View E F) × (get_elem? s.views (seat_of turn) ≡ some v) × (v.number ≡ turn)
-    pub home : turn ≡ 0 → (x : V) × (s.homes ≡ some (Some x) ∷ []) × (entries x ≡ trail) × (fixed x ≡ fixed about.first.value)
+    pub home : turn ≡ 0
+        → (x : V) × (s.homes ≡ some (Some x) ∷ []) × (entries x ≡ trail) × (fixed x ≡ fixed about.first.value)
     pub out : turn ≢ 0 → s.homes ≡ none ∷ []

@@ -14,7 +14,8 @@ impl<V: Trailed> SeatLock<V> {
     pub fn close(self, passes: Passes<V::Entry, V::Fixed>) -> V
         requires { AreAllOf V.party (lock_of V.fixed self) passes }
         ensures fixed { Some (V.fixed result) ≡ (lock_of V.fixed self).fixed }
-        ensures fits { (n : ℕ) (p : _) → at_home passes n ≡ Some p → FitsTrail V.party n (seen_by p) (made_by p) (V.entries result) }
+        ensures fits { (n : ℕ) (p : _) → at_home passes n ≡ Some p
+            → FitsTrail V.party n (seen_by p) (made_by p) (V.entries result) }
         ensures makers { All (λ e. (1 ≤ V.party e) × (V.party e ≤ seats_in passes)) (V.entries result) }
         ensures short { length (V.entries result) < 2 ^ 32 }
     {

@@ -19,9 +19,11 @@ impl<V: Trailed + Drop> SeatLock<V> {
     ) -> Result<(SeatLock<V>, Passes<V::Entry, V::Fixed>), AllocError>
         requires seats { (1 ≤ seats) × (seats ≤ 32) }
         requires empty { V.entries value ≡ [] }
-        ensures lock { IfOk result (λ r. ((lock_of V.fixed r.0).fixed ≡ Some (V.fixed value)) × ((lock_of V.fixed r.0).seats ≡ seats)) }
+        ensures lock { IfOk result
+            (λ r. ((lock_of V.fixed r.0).fixed ≡ Some (V.fixed value)) × ((lock_of V.fixed r.0).seats ≡ seats)) }
         ensures all { IfOk result (λ r. AreAllOf V.party (lock_of V.fixed r.0) r.1) }
-        ensures new { IfOk result (λ r. (n : ℕ) (p : _) → at_home r.1 n ≡ Some p → (seen_by p ≡ []) × (made_by p ≡ []) × (lost_by p ≡ [])) }
+        ensures new { IfOk result
+            (λ r. (n : ℕ) (p : _) → at_home r.1 n ≡ Some p → (seen_by p ≡ []) × (made_by p ≡ []) × (lost_by p ≡ [])) }
     {
         let (lock, first) = SeatLock::open(alloc, value, seats)?;
         let places = Vec::with_capacity(alloc, seats as usize)?;
@@ -37,7 +39,8 @@ impl<V: Trailed + Drop> SeatLock<V> {
     ) -> Result<(SeatLock<V>, Pass<V::Entry, V::Fixed>), AllocError>
         requires seats { 1 ≤ seats }
         requires empty { V.entries value ≡ [] }
-        ensures lock { IfOk result (λ r. ((lock_of V.fixed r.0).fixed ≡ Some (V.fixed value)) × ((lock_of V.fixed r.0).seats ≡ seats)) }
+        ensures lock { IfOk result
+            (λ r. ((lock_of V.fixed r.0).fixed ≡ Some (V.fixed value)) × ((lock_of V.fixed r.0).seats ≡ seats)) }
         ensures pass { IfOk result (λ r. IsNewPass (lock_of V.fixed r.0) 1 1 r.1) }
     {
         let about = About {
@@ -69,7 +72,8 @@ impl<V: Trailed> SeatLock<V> {
         requires seats { (2 ≤ number) × (number ≤ (lock_of V.fixed self.now).seats) }
         requires first { IsNewPass (lock_of V.fixed self.now) (number - 1) 1 first }
         ensures first { IsNewPass (lock_of V.fixed self.entry.now) number 1 result.0 }
-        ensures next { IsNewPass (lock_of V.fixed self.entry.now) (lock_of V.fixed self.entry.now).seats number result.1 }
+        ensures next { IsNewPass (lock_of V.fixed self.entry.now)
+            (lock_of V.fixed self.entry.now).seats number result.1 }
     {
         let Pass { badge, number: one } = first;
         let mut seat = badge.into_seat();

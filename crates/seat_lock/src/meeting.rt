@@ -19,10 +19,14 @@ impl<V: Trailed> SeatLock<V> {
         requires { AreAllOf V.party (lock_of V.fixed self.now) passes.old }
         ensures all { AreAllOf V.party (lock_of V.fixed self.entry.now) passes.new }
         ensures met { HaveMet passes.new }
-        ensures trail { (n : ℕ) (p : _) → at_home passes.new n ≡ Some p → IsTrailOf V.entries V.fixed (lock_of V.fixed self.entry.now) (seen_by p) }
-        ensures seen { (n : ℕ) (p q : _) → at_home passes.old n ≡ Some p → at_home passes.new n ≡ Some q → BeginsWith (seen_by q) (seen_by p) }
-        ensures made { (n : ℕ) (p q : _) → at_home passes.old n ≡ Some p → at_home passes.new n ≡ Some q → made_by q ≡ made_by p }
-        ensures lost { (n : ℕ) (p q : _) → at_home passes.old n ≡ Some p → at_home passes.new n ≡ Some q → BeginsWith (lost_by q) (lost_by p) }
+        ensures trail { (n : ℕ) (p : _) → at_home passes.new n ≡ Some p
+            → IsTrailOf V.entries V.fixed (lock_of V.fixed self.entry.now) (seen_by p) }
+        ensures seen { (n : ℕ) (p q : _) → at_home passes.old n ≡ Some p → at_home passes.new n ≡ Some q
+            → BeginsWith (seen_by q) (seen_by p) }
+        ensures made { (n : ℕ) (p q : _) → at_home passes.old n ≡ Some p → at_home passes.new n ≡ Some q
+            → made_by q ≡ made_by p }
+        ensures lost { (n : ℕ) (p q : _) → at_home passes.old n ≡ Some p → at_home passes.new n ≡ Some q
+            → BeginsWith (lost_by q) (lost_by p) }
     {
         self.tell_first(passes);
         self.take_turn(rt, passes);
@@ -34,7 +38,8 @@ impl<V: Trailed> SeatLock<V> {
         requires { AreAllOf V.party (lock_of V.fixed self.now) passes.old }
         ensures all { AreAllOf V.party (lock_of V.fixed self.entry.now) passes.new }
         ensures each { (n : ℕ) → HasLearned (view_at passes.old n) (view_at passes.new n) }
-        ensures seen { (n : ℕ) → 1 ≤ n → n ≤ seats_in passes.new → BeginsWith (seen_at passes.new 1) (seen_at passes.new n) }
+        ensures seen { (n : ℕ) → 1 ≤ n → n ≤ seats_in passes.new
+            → BeginsWith (seen_at passes.new 1) (seen_at passes.new n) }
     {
         for party in 1..passes.seats() {
             self.tell(passes, party + 1, 1);
@@ -56,7 +61,8 @@ impl<V: Trailed> SeatLock<V> {
     // Every other party learns what party 1 has seen, which is no less than what it has seen itself.
     fn tell_others(&self, passes: &mut Passes<V::Entry, V::Fixed>)
         requires all { AreAllOf V.party (lock_of V.fixed self.now) passes.old }
-        requires seen { (n : ℕ) → 1 ≤ n → n ≤ seats_in passes.old → BeginsWith (seen_at passes.old 1) (seen_at passes.old n) }
+        requires seen { (n : ℕ) → 1 ≤ n → n ≤ seats_in passes.old
+            → BeginsWith (seen_at passes.old 1) (seen_at passes.old n) }
         ensures all { AreAllOf V.party (lock_of V.fixed self.entry.now) passes.new }
         ensures each { (n : ℕ) → HasLearned (view_at passes.old n) (view_at passes.new n) }
         ensures met { (n : ℕ) → 1 ≤ n → n ≤ seats_in passes.new → seen_at passes.new n ≡ seen_at passes.old 1 }
@@ -73,7 +79,8 @@ impl<V: Trailed> SeatLock<V> {
         requires to { (1 ≤ to) × (to ≤ seats_in passes.old) }
         ensures all { AreAllOf V.party (lock_of V.fixed self.entry.now) passes.new }
         ensures others { (n : ℕ) → n ≢ to → view_at passes.new n ≡ view_at passes.old n }
-        ensures learned { view_at passes.new to ≡ with_seen (longer (seen_at passes.old to) (seen_at passes.old from)) (view_at passes.old to) }
+        ensures learned { view_at passes.new to
+            ≡ with_seen (longer (seen_at passes.old to) (seen_at passes.old from)) (view_at passes.old to) }
         ensures own { BeginsWith (seen_at passes.new to) (seen_at passes.old to) }
         ensures told { BeginsWith (seen_at passes.new to) (seen_at passes.old from) }
     {
@@ -117,7 +124,8 @@ impl<V: Trailed> SeatLock<V> {
         requires rests { (other.me.1 ≡ []) × (other.me.0.has_turn ≡ false) }
         ensures all { AreAllOf V.party (lock_of V.fixed self.entry.now) passes.new }
         ensures others { (n : ℕ) → n ≢ party → view_at passes.new n ≡ view_at passes.old n }
-        ensures learned { view_at passes.new party ≡ with_seen (longer (seen_at passes.old party) other.me.0.seen) (view_at passes.old party) }
+        ensures learned { view_at passes.new party
+            ≡ with_seen (longer (seen_at passes.old party) other.me.0.seen) (view_at passes.old party) }
         ensures own { BeginsWith (seen_at passes.new party) (seen_at passes.old party) }
         ensures told { BeginsWith (seen_at passes.new party) other.me.0.seen }
     {

@@ -25,13 +25,18 @@ impl<V: Trailed> SeatLock<V> {
         pass: Pass<V::Entry, V::Fixed>,
     ) -> Result<Turn<'_, V>, Held<V::Entry, V::Fixed>>
         requires { IsPassOf V.party (lock_of V.fixed self.now) pass }
-        ensures turn { IfOk result (λ t. (lock_in t ≡ lock_of V.fixed self.entry.now) × (party_in t ≡ party_of pass) × (made_in t ≡ made_by pass) × (lost_in t ≡ lost_by pass)) }
+        ensures turn { IfOk result
+            (λ t. (lock_in t ≡ lock_of V.fixed self.entry.now) × (party_in t ≡ party_of pass)
+            × (made_in t ≡ made_by pass) × (lost_in t ≡ lost_by pass)) }
         ensures trail { IfOk result (λ t. (V.entries (value_in t) ≡ seen_in t) × (length (seen_in t) < 2 ^ 32)) }
-        ensures fits { IfOk result (λ t. FitsTrail V.party (party_of pass) (seen_by pass) (made_by pass) (V.entries (value_in t))) }
+        ensures fits { IfOk result
+            (λ t. FitsTrail V.party (party_of pass) (seen_by pass) (made_by pass) (V.entries (value_in t))) }
         ensures fixed { IfOk result (λ t. Some (V.fixed (value_in t)) ≡ (lock_of V.fixed self.entry.now).fixed) }
         ensures word { IfErr result (λ h. (h.word ≢ 0) × (h.word ≢ party_of pass)) }
         ensures lost { IfErr result (λ h. lost_by h.pass ≡ lost_by pass ++ h.word ∷ []) }
-        ensures pass { IfErr result (λ h. IsPassOf V.party (lock_of V.fixed self.entry.now) h.pass × (party_of h.pass ≡ party_of pass) × (seen_by h.pass ≡ seen_by pass) × (made_by h.pass ≡ made_by pass)) }
+        ensures pass { IfErr result
+            (λ h. IsPassOf V.party (lock_of V.fixed self.entry.now) h.pass × (party_of h.pass ≡ party_of pass)
+            × (seen_by h.pass ≡ seen_by pass) × (made_by h.pass ≡ made_by pass)) }
     {
         let Pass { badge, number } = pass;
         let mut seat = badge.into_seat();
@@ -56,7 +61,8 @@ impl<V: Trailed> SeatLock<V> {
     /// Tries until it has the turn.
     pub fn enter<R: Wait>(&self, rt: &R, pass: Pass<V::Entry, V::Fixed>) -> Turn<'_, V>
         requires { IsPassOf V.party (lock_of V.fixed self.now) pass }
-        ensures turn { (lock_in result ≡ lock_of V.fixed self.entry.now) × (party_in result ≡ party_of pass) × (made_in result ≡ made_by pass) }
+        ensures turn { (lock_in result ≡ lock_of V.fixed self.entry.now) × (party_in result ≡ party_of pass)
+            × (made_in result ≡ made_by pass) }
         ensures lost { BeginsWith (lost_in result) (lost_by pass) }
         ensures trail { (V.entries (value_in result) ≡ seen_in result) × (length (seen_in result) < 2 ^ 32) }
         ensures fits { FitsTrail V.party (party_of pass) (seen_by pass) (made_by pass) (V.entries (value_in result)) }
@@ -90,7 +96,8 @@ impl<V: Trailed> Turn<'_, V> {
         ensures pass { IsPassOf V.party (lock_in self.entry) result }
         ensures party { party_of result ≡ party_in self.entry }
         ensures seen { seen_by result ≡ V.entries (value_in self.entry) }
-        ensures made { MadeInTurn (seen_in self.entry) (V.entries (value_in self.entry)) (made_in self.entry) (made_by result) }
+        ensures made { MadeInTurn (seen_in self.entry) (V.entries (value_in self.entry)) (made_in self.entry)
+            (made_by result) }
         ensures lost { lost_by result ≡ lost_in self.entry }
     {
         let Turn {

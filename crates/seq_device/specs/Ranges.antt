@@ -20,10 +20,12 @@ pub record AreAtHand (contents : Contents) (ranges : List MemRange) : Type 0 whe
 
 -- the contents with other bytes of a range, where a program may store into it
 abbrev pub with_window : Contents → MemRange → List ℕ → Contents
-with_window contents range bytes = if allows_writing range.access then put contents (space.Mem range.ns) range.at bytes else contents
+with_window contents range bytes =
+    if allows_writing range.access then put contents (space.Mem range.ns) range.at bytes else contents
 
 -- the contents with other bytes of each range into which a program may store
 abbrev pub with_windows : Contents → List MemRange → List (List ℕ) → Contents
 with_windows contents [] windows = contents
 with_windows contents (range ∷ ranges) [] = contents
-with_windows contents (range ∷ ranges) (bytes ∷ windows) = with_windows (with_window contents range bytes) ranges windows
+with_windows contents (range ∷ ranges) (bytes ∷ windows) =
+    with_windows (with_window contents range bytes) ranges windows

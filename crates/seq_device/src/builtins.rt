@@ -55,7 +55,8 @@ fn bytes_of<'f>(flat: &'f Flat, range: &MemRange) -> &'f [u8]
 // The range of this index.
 fn range_at(ranges: &[MemRange], index: usize) -> Option<&MemRange>
     ensures range { option_copied result ≡ slice_get ranges.now index }
-    ensures at_hand { (contents : Contents) → All (IsAtHand contents) ranges.now → IfSome result (λ range. IsAtHand contents range.now) }
+    ensures at_hand { (contents : Contents) → All (IsAtHand contents) ranges.now
+        → IfSome result (λ range. IsAtHand contents range.now) }
 {
     ranges.get(index)
 }
@@ -168,7 +169,8 @@ fn cost(flat: &Flat, ranges: &[MemRange], program: DeviceProgram) -> u64
 fn count(flat: &Flat, ranges: &[MemRange], value: u8) -> u64
     requires few { length ranges.now ≤ MAX_ITEMS }
     requires at_hand { All (IsAtHand flat.now) ranges.now }
-    ensures { result ≡ sum_by (λ window. count_by (λ byte. byte == value) window) (windows_of (memory_of flat.now) ranges.now) }
+    ensures { result
+        ≡ sum_by (λ window. count_by (λ byte. byte == value) window) (windows_of (memory_of flat.now) ranges.now) }
 {
     let mut total = 0;
     for range in ranges {

@@ -60,7 +60,8 @@ impl SeqDevice {
     pub fn step(&mut self, command: &Command) -> Reply
         ensures step { DeviceStep self.old.config self.old.state command.now (answer_of result) self.new.state }
         ensures carried { IsCarriedOut self.old command.now (answer_of result) self.new }
-        ensures in_place { IsTrue (works_in_place command.now) → IsDone self.old command.now (answer_of result) self.new }
+        ensures in_place { IsTrue (works_in_place command.now)
+            → IsDone self.old command.now (answer_of result) self.new }
         ensures not_withdrawn { result.status ≢ Status.Aborted }
         ensures config { self.new.config ≡ self.old.config }
         ensures short { length result.bytes.items ≤ MAX_TRANSFER }
@@ -115,7 +116,8 @@ impl SeqDevice {
     // The bytes of a range, which the namespace has by the configuration, or that there is no memory for them.
     pub(crate) fn read(&self, range: &ByteRange) -> Reply
         requires { range.now.start + range.now.len ≤ unwrap_or (size_of self.now.config range.now.space) 0 }
-        ensures { (answer_of result ≡ was_read self.now.state.contents range.now) ⊎ (answer_of result ≡ only_status Status.NoMemory) }
+        ensures { (answer_of result ≡ was_read self.now.state.contents range.now)
+            ⊎ (answer_of result ≡ only_status Status.NoMemory) }
     {
         match self.flat.piece(range) {
             Ok(bytes) => read(bytes),

@@ -41,7 +41,8 @@ pub(crate) fn is_read_write(range: &MemRange) -> bool
 // A copy of the bytes of a range, and whether a program may store into them.
 fn window_of(flat: &Flat, range: &MemRange) -> Result<Window, NoMemory>
     requires { IsAtHand flat.now range.now }
-    ensures bytes { IfOk result (λ window. window.bytes.items ≡ bytes_from (memory_of flat.now) range.now.ns range.now.at range.now.len) }
+    ensures bytes { IfOk result
+        (λ window. window.bytes.items ≡ bytes_from (memory_of flat.now) range.now.ns range.now.at range.now.len) }
     ensures writable { IfOk result (λ window. window.writable ≡ allows_writing range.now.access) }
 {
     Ok(Window {

@@ -122,7 +122,9 @@ impl Flat {
 fn write_at(all: &mut Vec<Bytes>, number: u32, start: u64, from: &[u8])
     requires some { 0 < length from.now }
     requires inside { start + length from.now ≤ length (unwrap_or (numbered (contents_of all.old.items) number) []) }
-    ensures { contents_of all.new.items ≡ with_numbered (contents_of all.old.items) number (patched (unwrap_or (numbered (contents_of all.old.items) number) []) start from.now) }
+    ensures { contents_of all.new.items
+        ≡ with_numbered (contents_of all.old.items) number
+        (patched (unwrap_or (numbered (contents_of all.old.items) number) []) start from.now) }
 {
     let space = &mut all[number as usize - 1];
     space.write(start, from);
@@ -132,7 +134,9 @@ fn write_at(all: &mut Vec<Bytes>, number: u32, start: u64, from: &[u8])
 fn fill_at(all: &mut Vec<Bytes>, number: u32, start: u64, n: u64, value: u8)
     requires some { 0 < n }
     requires inside { start + n ≤ length (unwrap_or (numbered (contents_of all.old.items) number) []) }
-    ensures { contents_of all.new.items ≡ with_numbered (contents_of all.old.items) number (patched (unwrap_or (numbered (contents_of all.old.items) number) []) start (replicate n value)) }
+    ensures { contents_of all.new.items
+        ≡ with_numbered (contents_of all.old.items) number
+        (patched (unwrap_or (numbered (contents_of all.old.items) number) []) start (replicate n value)) }
 {
     let space = &mut all[number as usize - 1];
     space.fill(start, n, value);

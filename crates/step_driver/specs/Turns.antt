@@ -38,7 +38,9 @@ listed workers d parts = actions d.config workers (world_in d) parts
 
 -- the listed action of this number was done
 abbrev pub IsDoneBy : ℕ → ℕ → Recorded → Recorded → List PlainPart → List PlainPart → Type 0
-IsDoneBy number workers old new before after = IsSomeAnd (slice_get (listed workers old before) number) (λ (action : Action). IsActionDone old new before after action)
+IsDoneBy number workers old new before after =
+    IsSomeAnd (slice_get (listed workers old before) number)
+    (λ (action : Action). IsActionDone old new before after action)
 
 -- a send finds its place: nothing forbids it
 abbrev pub FindsPlace : Recorded → Action → Type 0
@@ -56,4 +58,5 @@ pub record MayAct (d : Recorded) (parts : List PlainPart) : Type 0 where
 -- the part at an index is that of host number `number`, from 0, of those that may do their next item
 pub record IsReadyAt (w : World) (parts : List PlainPart) (number index : ℕ) : Type 0 where
   pub before : length (actions_of_hosts w (take index parts)) ≡ number
-  pub ready : IsSomeAnd (slice_get parts index) (λ (part : PlainPart). 0 < length (action_of_host w part.host part.items))
+  pub ready : IsSomeAnd (slice_get parts index)
+      (λ (part : PlainPart). 0 < length (action_of_host w part.host part.items))

@@ -62,7 +62,8 @@ impl Part {
     pub(crate) fn act(&mut self, running: &mut Running)
         requires host { IsHost self.old.host }
         requires ready { 0 < length (action_of_host (world_in running.old) self.old.host self.old.items) }
-        requires place { AllByRecursion (FindsPlace running.old) (action_of_host (world_in running.old) self.old.host self.old.items) }
+        requires place { AllByRecursion (FindsPlace running.old)
+            (action_of_host (world_in running.old) self.old.host self.old.items) }
         ensures acted { IsSomeAnd (slice_get (action_of_host (world_in running.old) self.old.host self.old.items) 0)
             (λ (action : Action). DoesAction running.old running.new action) }
         ensures left { self.new ≡ record self.old { items = behind_first self.old.items } }

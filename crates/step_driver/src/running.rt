@@ -137,7 +137,8 @@ impl Running {
     /// Carries out the work of an open claim, which ends so.
     pub(crate) fn finish(&mut self, index: usize)
         requires { index < length (world_in self.old).claims }
-        ensures { IsSomeAnd (slice_get (world_in self.old).claims index) (λ (claim : OpenClaim). DoesAction self.old self.new (Ending claim)) }
+        ensures { IsSomeAnd (slice_get (world_in self.old).claims index)
+            (λ (claim : OpenClaim). DoesAction self.old self.new (Ending claim)) }
     {
         let held = self.held.remove(index);
         let worked = held.work.run();

@@ -50,8 +50,10 @@ fn run_phase(
 ) -> Result<(), NoMemory>
     requires some { 1 ≤ workers }
     requires few { workers ≤ MAX_HOSTS }
-    requires follows { (plan : List Phase) × (first : ℕ) × (later : Phases) × Follows plan workers first running.old (plain_phase phase ∷ later) choices.old }
-    ensures followed { OnOk result ((plan : List Phase) (first : ℕ) (later : Phases) → Follows plan workers first running.old (plain_phase phase ∷ later) choices.old
+    requires follows { (plan : List Phase) × (first : ℕ) × (later : Phases)
+        × Follows plan workers first running.old (plain_phase phase ∷ later) choices.old }
+    ensures followed { OnOk result
+        ((plan : List Phase) (first : ℕ) (later : Phases) → Follows plan workers first running.old (plain_phase phase ∷ later) choices.old
         → Follows plan workers first running.new later choices.new) }
     ensures config { running.new.config ≡ running.old.config }
 {
@@ -85,7 +87,8 @@ pub fn run_steps(
     requires limited { plan.commands ≤ MAX_COMMANDS }
     requires rules { All (KeepsRules config.now.depth) plan.phases }
     ensures device { IfOk result (λ core. (core.config ≡ config.now) × (core.commands ≡ plan.commands)) }
-    ensures scheduled { IfOk result (λ core. IsScheduled config.now (plain_phases plan.phases) workers choices core.trail) }
+    ensures scheduled { IfOk result
+        (λ core. IsScheduled config.now (plain_phases plan.phases) workers choices core.trail) }
     ensures told { IfOk result (λ core. TellsPlan config.now plan.phases (world_in core)) }
 {
     let core = Core::new(alloc, config, plan.commands)?;

@@ -33,7 +33,8 @@ fn ready(core: &Core, parts: &[Part]) -> usize
 fn ready_at(core: &Core, parts: &[Part], number: u64) -> Result<usize, u64>
     requires { AllByRecursion (λ (part : PlainPart). IsHost part.host) parts.now }
     ensures found { IfOk result (λ index. IsReadyAt (world_in core.now) parts.now number index) }
-    ensures fewer { IfErr result (λ count. (count ≡ length (actions_of_hosts (world_in core.now) parts.now)) × (count ≤ number)) }
+    ensures fewer { IfErr result
+        (λ count. (count ≡ length (actions_of_hosts (world_in core.now) parts.now)) × (count ≤ number)) }
 {
     let mut count = 0;
     for (index, part) in parts.iter().enumerate() {
@@ -50,7 +51,9 @@ fn ready_at(core: &Core, parts: &[Part], number: u64) -> Result<usize, u64>
 // How many commands the least idle worker may turn to.
 fn turns(running: &Running, workers: u32) -> u32
     requires { workers ≤ MAX_HOSTS }
-    ensures { result ≡ length (turning (idle_worker (world_in running.now) workers) (pickable_among running.now.config (world_in running.now))) }
+    ensures { result
+        ≡ length
+        (turning (idle_worker (world_in running.now) workers) (pickable_among running.now.config (world_in running.now))) }
 {
     match running.idle(workers) {
         Some(_) => running.core().pickable(),
@@ -87,7 +90,8 @@ fn choose(running: &Running, parts: &[Part], workers: u32, choices: u64) -> (u64
 // The host of the part at an index does its next item.
 fn act_at(running: &mut Running, parts: &mut Vec<Part>, index: usize)
     requires may { MayAct running.old parts.old.items }
-    requires ready { IsSomeAnd (slice_get parts.old.items index) (λ (part : PlainPart). 0 < length (action_of_host (world_in running.old) part.host part.items)) }
+    requires ready { IsSomeAnd (slice_get parts.old.items index)
+        (λ (part : PlainPart). 0 < length (action_of_host (world_in running.old) part.host part.items)) }
     ensures { IsSomeAnd (slice_get (actions_of_hosts (world_in running.old) parts.old.items) (length (actions_of_hosts (world_in running.old) (take index parts.old.items))))
         (λ (action : Action). IsActionDone running.old running.new parts.old.items parts.new.items action) }
 {
@@ -99,7 +103,8 @@ fn serve(running: &mut Running, workers: u32, number: u64) -> Result<(), NoMemor
     requires workers { workers ≤ MAX_HOSTS }
     requires number { number < length (actions_of_workers workers running.old) }
     ensures unchanged { OnErr result (running.new ≡ running.old) }
-    ensures served { OnOk result (IsSomeAnd (slice_get (actions_of_workers workers running.old) number) (λ (action : Action). IsActionServed running.old running.new action)) }
+    ensures served { OnOk result
+        (IsSomeAnd (slice_get (actions_of_workers workers running.old) number) (λ (action : Action). IsActionServed running.old running.new action)) }
 {
     let open = running.open() as u64;
     if number < open {
@@ -149,7 +154,8 @@ pub(crate) fn step(
     requires may { MayAct running.old parts.old.items }
     requires some { 0 < length (listed workers running.old parts.old.items) }
     ensures unchanged { OnErr result (running.new ≡ running.old) }
-    ensures done { OnOk result (IsDoneBy (choices.old % length (listed workers running.old parts.old.items)) workers running.old running.new parts.old.items parts.new.items) }
+    ensures done { OnOk result
+        (IsDoneBy (choices.old % length (listed workers running.old parts.old.items)) workers running.old running.new parts.old.items parts.new.items) }
     ensures rest { choices.new ≡ choices.old / length (listed workers running.old parts.old.items) }
 {
     let (number, rest) = choose(running, parts, workers, *choices);

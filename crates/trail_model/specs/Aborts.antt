@@ -23,7 +23,9 @@ withdraws_one done = is_abort done.request.command && (is_ok done.answer.status 
 -- aborted, and nowhere else stands one
 pub data AreAbortsPaired : List Completion → Type 0 where
   at_end : AreAbortsPaired []
-  alone : (done : Completion) (rest : List Completion) → IsFalse (withdraws_one done) → IsFalse (is_aborted done.answer.status)
+  alone : (done : Completion) (rest : List Completion) → IsFalse (withdraws_one done)
+      → IsFalse (is_aborted done.answer.status)
       → AreAbortsPaired rest → AreAbortsPaired (done ∷ rest)
-  pair : (done withdrawn : Completion) (rest : List Completion) → IsTrue (withdraws_one done) → done.request.names ≡ Some withdrawn.request.place
+  pair : (done withdrawn : Completion) (rest : List Completion) → IsTrue (withdraws_one done)
+      → done.request.names ≡ Some withdrawn.request.place
       → withdrawn.answer ≡ only_status status.Aborted → AreAbortsPaired rest → AreAbortsPaired (done ∷ withdrawn ∷ rest)

@@ -36,7 +36,8 @@ first_account = record { next = 1; outstanding = []; names = []; claim = None }
 
 -- the ordinal of the outstanding command of an identifier
 abbrev pub ordinal_under : List Outstanding → ℕ → Option ℕ
-ordinal_under outstanding cid = option_map (λ (o : Outstanding). o.ordinal) (find (λ (o : Outstanding). o.cid == cid) outstanding)
+ordinal_under outstanding cid =
+    option_map (λ (o : Outstanding). o.ordinal) (find (λ (o : Outstanding). o.cid == cid) outstanding)
 
 -- what a new command names by these outstanding commands, where it is an Abort of this identifier
 abbrev pub naming_under : List Outstanding → ℕ → Option ℕ → List Naming
@@ -55,10 +56,12 @@ account_after a (event.Submit by cid ordinal cmd) = record {
   names = a.names ++ naming_of a.outstanding ordinal cmd;
   claim = a.claim;
 }
-account_after a (event.Claim by host ordinal sent) = record a { claim = Some (record { host = host; ordinal = ordinal; sent = sent }) }
+account_after a (event.Claim by host ordinal sent) =
+    record a { claim = Some (record { host = host; ordinal = ordinal; sent = sent }) }
 account_after a (event.Finish by claim answer) = record a { claim = None }
 account_after a (event.Do by host ordinal sent answer aborts) = a
-account_after a (event.Take by cid posted) = record a { outstanding = filter (λ (o : Outstanding). not (o.cid == cid)) a.outstanding }
+account_after a (event.Take by cid posted) =
+    record a { outstanding = filter (λ (o : Outstanding). not (o.cid == cid)) a.outstanding }
 account_after a (event.Rest by) = a
 
 abbrev pub account_from : Account → Trail → Account
@@ -76,7 +79,8 @@ events_of party trail = filter (λ (e : Event). party_of_event e == party) trail
 -- ---- the same in a world
 
 abbrev pub outstanding_in : List Submission → ℕ → List Outstanding
-outstanding_in submits host = map (λ (s : Submission). record { cid = s.request.cid; ordinal = s.request.ordinal }) (outstanding_of submits host)
+outstanding_in submits host =
+    map (λ (s : Submission). record { cid = s.request.cid; ordinal = s.request.ordinal }) (outstanding_of submits host)
 
 -- what a submit names, where it is an Abort of this identifier
 abbrev pub named_under : List Submission → Request → Option ℕ → List Naming

@@ -22,7 +22,8 @@ home_after trail offset = home small (world_of small trail) (space.Mem 1) offset
 
 -- what the completions of a trail tell, in order: the place of the submit, and the status and the number
 abbrev pub told_after : Trail → List (ℕ × Status × ℕ)
-told_after trail = map (λ (done : Completion). (done.request.place, done.answer.status, done.answer.result)) (history_of small trail)
+told_after trail =
+    map (λ (done : Completion). (done.request.place, done.answer.status, done.answer.result)) (history_of small trail)
 
 -- the completion of the command of a submit
 abbrev pub ends_so : ℕ → Status → ℕ → ℕ × Status × ℕ
@@ -55,7 +56,8 @@ two_readers =
 abbrev pub held_set_trail : Trail
 held_set_trail =
     event.Submit 1 1 1 (command.SetCreate (range 0 8 ∷ [])) ∷ event.Do 17 1 1 0 (tells status.Ok 1) None
-    ∷ event.Submit 1 2 2 (command.Execute 65 1 0 0 8) ∷ event.Submit 2 1 1 (command.SetDelete 1) ∷ event.Claim 17 1 2 2 ∷ []
+    ∷ event.Submit 1 2 2 (command.Execute 65 1 0 0 8) ∷ event.Submit 2 1 1 (command.SetDelete 1) ∷ event.Claim 17 1 2 2
+    ∷ []
 
 -- a host fills four bytes, and then wants to withdraw the fill
 abbrev pub fill_and_abort : Trail

@@ -38,7 +38,8 @@ abbrev pub execution_by : State → Nature → Execution
 execution_by s nature.Reads = no_execution
 execution_by s nature.Writes = no_execution
 execution_by s nature.Copies = no_execution
-execution_by s (nature.Executes slot set) = record { runs = executable_in s slot; ranges = unwrap_or (ranges_under s.sets set) [] }
+execution_by s (nature.Executes slot set) =
+    record { runs = executable_in s slot; ranges = unwrap_or (ranges_under s.sets set) [] }
 execution_by s nature.Builds = no_execution
 execution_by s nature.Arranges = no_execution
 execution_by s (nature.Deletes set) = no_execution
@@ -55,7 +56,8 @@ writable_ranges ranges = filter (λ (range : MemRange). allows_writing range.acc
 
 -- where the bytes lie that a command reads, where it moves any; an execution reads on these ranges
 abbrev pub reads_of : Configuration → List MemRange → Command → List Region
-reads_of c ranges (command.NvmRead ns lba count) = record { space = space.Nvm ns; start = lba * c.block; len = count * c.block } ∷ []
+reads_of c ranges (command.NvmRead ns lba count) =
+    record { space = space.Nvm ns; start = lba * c.block; len = count * c.block } ∷ []
 reads_of c ranges (command.NvmWrite ns lba bytes) = []
 reads_of c ranges (command.NvmZeroes ns lba count) = []
 reads_of c ranges (command.NvmCopy ns lba from) = map (source_region c) from
@@ -69,11 +71,15 @@ reads_of c ranges _ = []
 -- where the bytes lie that a command may write, where it moves any; an execution writes on these ranges
 abbrev pub writes_of : Configuration → List MemRange → Command → List Region
 writes_of c ranges (command.NvmRead ns lba count) = []
-writes_of c ranges (command.NvmWrite ns lba bytes) = record { space = space.Nvm ns; start = lba * c.block; len = length bytes.items } ∷ []
-writes_of c ranges (command.NvmZeroes ns lba count) = record { space = space.Nvm ns; start = lba * c.block; len = count * c.block } ∷ []
-writes_of c ranges (command.NvmCopy ns lba from) = destination_of (space.Nvm ns) (lba * c.block) (map (source_region c) from) ∷ []
+writes_of c ranges (command.NvmWrite ns lba bytes) =
+    record { space = space.Nvm ns; start = lba * c.block; len = length bytes.items } ∷ []
+writes_of c ranges (command.NvmZeroes ns lba count) =
+    record { space = space.Nvm ns; start = lba * c.block; len = count * c.block } ∷ []
+writes_of c ranges (command.NvmCopy ns lba from) =
+    destination_of (space.Nvm ns) (lba * c.block) (map (source_region c) from) ∷ []
 writes_of c ranges (command.MemRead ns at len) = []
-writes_of c ranges (command.MemWrite ns at bytes) = record { space = space.Mem ns; start = at; len = length bytes.items } ∷ []
+writes_of c ranges (command.MemWrite ns at bytes) =
+    record { space = space.Mem ns; start = at; len = length bytes.items } ∷ []
 writes_of c ranges (command.MemFill ns at len value) = record { space = space.Mem ns; start = at; len = len } ∷ []
 writes_of c ranges (command.MemCopy ns at from) = destination_of (space.Mem ns) at (map (source_region c) from) ∷ []
 writes_of c ranges (command.Execute slot set p1 p2 budget) = map range_region (writable_ranges ranges)

@@ -89,8 +89,10 @@ pub record MayDo (c : Configuration) (w : World) (by host ordinal : ℕ) (answer
 -- an event is allowed in a world, where so many commands may be submitted in all
 abbrev pub IsAllowedIn : Configuration → ℕ → World → Event → Type 0
 IsAllowedIn c commands w (event.Submit by cid ordinal cmd) = MaySubmit c commands w by cid ordinal
-IsAllowedIn c commands w (event.Claim by host ordinal sent) = IsSomeAnd (submit_at w.submits sent) (λ s. MayClaim c w by host ordinal s)
-IsAllowedIn c commands w (event.Finish by claim answer) = IsSomeAnd (claim_at w.claims claim) (λ claimed. MayFinish c by answer claimed)
+IsAllowedIn c commands w (event.Claim by host ordinal sent) =
+    IsSomeAnd (submit_at w.submits sent) (λ s. MayClaim c w by host ordinal s)
+IsAllowedIn c commands w (event.Finish by claim answer) =
+    IsSomeAnd (claim_at w.claims claim) (λ claimed. MayFinish c by answer claimed)
 IsAllowedIn c commands w (event.Do by host ordinal sent answer aborts) =
     IsSomeAnd (submit_at w.submits sent) (λ s. MayDo c w by host ordinal answer aborts s)
 IsAllowedIn c commands w (event.Take by cid posted) =

@@ -39,7 +39,8 @@ NamesEarlier r = (place : ℕ) → r.names ≡ Some place → place < r.place
 -- an open claim lies in the trail, and its submit is being worked on
 pub record ClaimLinked (w : World) (claim : OpenClaim) : Type 0 where
   pub place : claim.place < w.count
-  pub submit : submit_at w.submits claim.request.place ≡ Some (let s : Submission = record { request = claim.request; stage = Working } in s)
+  pub submit : submit_at w.submits claim.request.place
+      ≡ Some (let s : Submission = record { request = claim.request; stage = Working } in s)
 
 -- two open claims are of different places, parties and submits
 pub record AreDifferent (a b : OpenClaim) : Type 0 where
@@ -54,5 +55,6 @@ pub record IsLinked (w : World) : Type 0 where
   pub names : AllByRecursion NamesEarlier (requests_of w.submits)
   pub claims : AllByRecursion (ClaimLinked w) w.claims
   pub different : EachTwo AreDifferent w.claims
-  pub working : (place : ℕ) (s : Submission) → submit_at w.submits place ≡ Some s → IsTrue (is_working s.stage) → IsTrue (is_some (claim_for w.claims place))
+  pub working : (place : ℕ) (s : Submission) → submit_at w.submits place ≡ Some s → IsTrue (is_working s.stage)
+      → IsTrue (is_some (claim_for w.claims place))
   pub events : w.count ≤ most_events_of w.submits + rest_events w.at_rest

@@ -37,7 +37,8 @@ memory_among all ns offset = all (space.Mem ns) offset
 
 -- ranges with the bytes that a memory has there
 abbrev pub ranges_with : Memory → List MemRange → List RegionBytes
-ranges_with memory ranges = map (λ (range : MemRange). record { region = range_region range; bytes = bytes_from memory range.ns range.at range.len }) ranges
+ranges_with memory ranges =
+    map (λ (range : MemRange). record { region = range_region range; bytes = bytes_from memory range.ns range.at range.len }) ranges
 
 -- what a command that moves bytes and passes its checks answers and writes, where an execution is of this kind, and the
 -- bytes of all namespaces are these; of any other command nothing is said
@@ -45,7 +46,8 @@ abbrev pub written : Configuration → Execution → AllBytes → Command → Lo
 written c x all (command.NvmRead ns lba count) = gave (gathered all (space.Nvm ns) (lba * c.block) (count * c.block))
 written c x all (command.NvmWrite ns lba bytes) = laid (space.Nvm ns) (lba * c.block) bytes.items
 written c x all (command.NvmZeroes ns lba count) = laid (space.Nvm ns) (lba * c.block) (replicate (count * c.block) 0)
-written c x all (command.NvmCopy ns lba from) = laid (space.Nvm ns) (lba * c.block) (gathered_joined all (map (source_region c) from))
+written c x all (command.NvmCopy ns lba from) =
+    laid (space.Nvm ns) (lba * c.block) (gathered_joined all (map (source_region c) from))
 written c x all (command.MemRead ns at len) = gave (gathered all (space.Mem ns) at len)
 written c x all (command.MemWrite ns at bytes) = laid (space.Mem ns) at bytes.items
 written c x all (command.MemFill ns at len value) = laid (space.Mem ns) at (replicate len value)
@@ -62,4 +64,5 @@ local_effect c x pieces cmd = written c x (carried pieces) cmd
 
 -- a state with the pieces of a local effect put back, and its answer
 abbrev pub put_back : State → LocalEffect → Outcome
-put_back s effect = record { answer = effect.answer; next = record s { contents = put_pieces s.contents effect.pieces } }
+put_back s effect =
+    record { answer = effect.answer; next = record s { contents = put_pieces s.contents effect.pieces } }

@@ -27,11 +27,13 @@ gathered all space start (suc n) = all space start ∷ gathered all space (start
 -- the bytes of regions, one after the other
 abbrev pub gathered_joined : AllBytes → List Region → List ℕ
 gathered_joined all [] = []
-gathered_joined all (region ∷ regions) = gathered all region.space region.start region.len ++ gathered_joined all regions
+gathered_joined all (region ∷ regions) =
+    gathered all region.space region.start region.len ++ gathered_joined all regions
 
 -- whether a byte of a namespace lies in a region
 abbrev pub has_byte : Region → SpaceId → ℕ → Bool
-has_byte region space offset = same_space region.space space && (nat_le region.start offset && nat_lt offset (region.start + region.len))
+has_byte region space offset =
+    same_space region.space space && (nat_le region.start offset && nat_lt offset (region.start + region.len))
 
 -- whether a byte of a namespace lies in one of the regions
 abbrev pub any_has_byte : List Region → SpaceId → ℕ → Bool
@@ -39,12 +41,14 @@ any_has_byte regions space offset = list_any (λ (region : Region). has_byte reg
 
 -- the bytes of regions, cut out of the contents
 abbrev pub pieces_of : Contents → List Region → List RegionBytes
-pieces_of contents regions = map (λ (region : Region). record { region = region; bytes = bytes_in contents region }) regions
+pieces_of contents regions =
+    map (λ (region : Region). record { region = region; bytes = bytes_in contents region }) regions
 
 -- the contents with pieces put back, one after the other
 abbrev pub put_pieces : Contents → List RegionBytes → Contents
 put_pieces contents [] = contents
-put_pieces contents (piece ∷ pieces) = put_pieces (put contents piece.region.space piece.region.start piece.bytes) pieces
+put_pieces contents (piece ∷ pieces) =
+    put_pieces (put contents piece.region.space piece.region.start piece.bytes) pieces
 
 -- the bytes of pieces, where these are all the bytes that there are: 0 outside them
 abbrev pub carried : List RegionBytes → AllBytes

@@ -128,7 +128,9 @@ queued_among submits = filter (λ (s : Submission). is_queued s.stage) submits
 
 -- the place of the submit that a host's new command names: of an Abort that of the outstanding command of its identifier
 abbrev pub named_place : List Submission → ℕ → Command → Option ℕ
-named_place submits host cmd = option_and_then (λ cid. option_map (λ (s : Submission). s.request.place) (outstanding_under submits host cid)) (aborted_cid cmd)
+named_place submits host cmd =
+    option_and_then (λ cid. option_map (λ (s : Submission). s.request.place) (outstanding_under submits host cid))
+    (aborted_cid cmd)
 
 -- the submits, of which the one at a place has come so far
 abbrev pub staged : ℕ → Stage → List Submission → List Submission
@@ -174,11 +176,13 @@ is_set_held claims set = list_any (λ (claim : OpenClaim). is_number set (held_s
 
 -- whether an open claim that may write a byte carries it
 abbrev pub is_out : Configuration → List OpenClaim → SpaceId → ℕ → Bool
-is_out c claims space offset = list_any (λ (claim : OpenClaim). any_has_byte (claimed_footprint c claim).writes space offset) claims
+is_out c claims space offset =
+    list_any (λ (claim : OpenClaim). any_has_byte (claimed_footprint c claim).writes space offset) claims
 
 -- the bytes that are at home: all but those that are out
 abbrev pub home : Configuration → World → Known
-home c w space offset = if is_out c w.claims space offset then None else slice_get (bytes_of w.state.contents space) offset
+home c w space offset =
+    if is_out c w.claims space offset then None else slice_get (bytes_of w.state.contents space) offset
 
 -- ---- which commands may be picked
 
@@ -313,7 +317,8 @@ request_at submits place = option_map (λ (s : Submission). s.request) (submit_a
 abbrev pub completions_by : World → Event → List Completion
 completions_by w (event.Submit by cid ordinal cmd) = []
 completions_by w (event.Claim by host ordinal sent) = []
-completions_by w (event.Finish by claim answer) = completion_of answer (option_map (λ (claimed : OpenClaim). claimed.request) (claim_at w.claims claim))
+completions_by w (event.Finish by claim answer) =
+    completion_of answer (option_map (λ (claimed : OpenClaim). claimed.request) (claim_at w.claims claim))
 completions_by w (event.Do by host ordinal sent answer aborts) =
     completion_of answer (request_at w.submits sent)
     ++ completion_of (only_status status.Aborted) (option_and_then (λ place. request_at w.submits place) aborts)

@@ -34,7 +34,8 @@ pub fn held_set_by_example()
     ensures lawful { IsLawful small 3 held_set_trail }
     ensures waits { pickable_after held_set_trail ≡ [] }
     ensures free { pickable_after (held_set_trail ++ Event.Finish 17 4 answered_ok ∷ []) ≡ 3 ∷ [] }
-    ensures over { IsLawful small 3 (held_set_trail ++ Event.Finish 17 4 answered_ok ∷ Event.Do 18 2 1 3 answered_ok None ∷ []) }
+    ensures over { IsLawful small 3
+        (held_set_trail ++ Event.Finish 17 4 answered_ok ∷ Event.Do 18 2 1 3 answered_ok None ∷ []) }
 {}
 
 /// An Abort withdraws a command that is still queued, and no command that is claimed.

@@ -14,11 +14,13 @@ use Rattle.workers.specs.Further.{IsFurther, outstanding_by}
 
 -- by their passes, which are at home, none of these hosts has an outstanding command
 abbrev pub HaveNoneOutstanding : List ℕ → DevicePasses → Type 0
-HaveNoneOutstanding hosts ps = (n : ℕ) (p : DevicePass) → Contains hosts n → at_home ps n ≡ Some p → outstanding_by p ≡ []
+HaveNoneOutstanding hosts ps =
+    (n : ℕ) (p : DevicePass) → Contains hosts n → at_home ps n ≡ Some p → outstanding_by p ≡ []
 
 -- by their passes, the hosts have done these phases, and nothing else
 abbrev pub HaveDoneSoFar : Phases → DevicePasses → Type 0
-HaveDoneSoFar phases ps = (n : ℕ) (p : DevicePass) → IsHost n → at_home ps n ≡ Some p → items_by n (made_by p) ≡ items_in n phases
+HaveDoneSoFar phases ps =
+    (n : ℕ) (p : DevicePass) → IsHost n → at_home ps n ≡ Some p → items_by n (made_by p) ≡ items_in n phases
 
 -- how many rests a party may add, where so many are added in all: only party 1 rests
 abbrev pub rests_of : ℕ → ℕ → ℕ

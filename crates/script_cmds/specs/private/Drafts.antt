@@ -34,8 +34,10 @@ open_part_lines form _ items = []
 
 -- the lines of the phase that is open
 abbrev pub open_lines : Form → Stage → List HostPart → List Item → List Line
-open_lines form InPhase hosts items = numbers_line line.Phase [] ∷ part_lines form hosts ++ open_part_lines form InPhase items
-open_lines form (InPart host) hosts items = numbers_line line.Phase [] ∷ part_lines form hosts ++ open_part_lines form (InPart host) items
+open_lines form InPhase hosts items =
+    numbers_line line.Phase [] ∷ part_lines form hosts ++ open_part_lines form InPhase items
+open_lines form (InPart host) hosts items =
+    numbers_line line.Phase [] ∷ part_lines form hosts ++ open_part_lines form (InPart host) items
 open_lines form _ hosts items = []
 
 -- the lines of the configuration, where there is one
@@ -70,7 +72,8 @@ HasNothing phases hosts items shows = (phases ≡ []) × (hosts ≡ []) × (item
 abbrev pub IsTidy : Stage → Configuration → List declared.Phase → List HostPart → List Item → List Show → Type 0
 IsTidy AtStart c phases hosts items shows = HasNothing phases hosts items shows
 IsTidy AfterHeader c phases hosts items shows = HasNothing phases hosts items shows × HasNoneBehind Nvm 0 c
-IsTidy (AfterNamespace kind last) c phases hosts items shows = HasNothing phases hosts items shows × HasNoneBehind kind last c
+IsTidy (AfterNamespace kind last) c phases hosts items shows =
+    HasNothing phases hosts items shows × HasNoneBehind kind last c
 IsTidy InPhase c phases hosts items shows = (hosts ≡ []) × (items ≡ []) × (shows ≡ [])
 IsTidy (InPart host) c phases hosts items shows = shows ≡ []
 IsTidy AfterShow c phases hosts items shows = (hosts ≡ []) × (items ≡ [])

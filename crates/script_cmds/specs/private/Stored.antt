@@ -9,14 +9,16 @@ use Rattle.script_cmds.specs.Text.{item_lines, part_lines, phase_lines, show_lin
 
 -- the part that was open has ended
 pub record EndsPart (old new : Drafted) : Type 0 where
-  pub hosts : part_lines old.progress.form new.hosts ≡ part_lines old.progress.form old.hosts ++ open_part_lines old.progress.form old.progress.stage old.items
+  pub hosts : part_lines old.progress.form new.hosts
+      ≡ part_lines old.progress.form old.hosts ++ open_part_lines old.progress.form old.progress.stage old.items
   pub items : new.items ≡ []
   pub phases : new.phases ≡ old.phases
   pub shows : new.shows ≡ old.shows
 
 -- the phase that was open has ended
 pub record EndsPhase (old new : Drafted) : Type 0 where
-  pub phases : phase_lines old.progress.form new.phases ≡ phase_lines old.progress.form old.phases ++ open_lines old.progress.form old.progress.stage old.hosts old.items
+  pub phases : phase_lines old.progress.form new.phases
+      ≡ phase_lines old.progress.form old.phases ++ open_lines old.progress.form old.progress.stage old.hosts old.items
   pub hosts : new.hosts ≡ []
   pub items : new.items ≡ []
   pub shows : new.shows ≡ old.shows
@@ -30,7 +32,8 @@ pub record AddsItem (line : Line) (old new : Drafted) : Type 0 where
 
 -- the phase that was open has ended, and one more thing is shown
 pub record AddsShow (line : Line) (old new : Drafted) : Type 0 where
-  pub phases : phase_lines old.progress.form new.phases ≡ phase_lines old.progress.form old.phases ++ open_lines old.progress.form old.progress.stage old.hosts old.items
+  pub phases : phase_lines old.progress.form new.phases
+      ≡ phase_lines old.progress.form old.phases ++ open_lines old.progress.form old.progress.stage old.hosts old.items
   pub hosts : new.hosts ≡ []
   pub items : new.items ≡ []
   pub shows : show_lines new.shows ≡ show_lines old.shows ++ line ∷ []

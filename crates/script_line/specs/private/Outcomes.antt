@@ -55,7 +55,8 @@ reading_outcome reading more = followed reading.fault (map value_view reading.va
 
 -- what the fields say that are read, and then these fields of the rest
 abbrev pub outcome_with : Reading → List Field → Result (List Value) TextCause
-outcome_with reading fields = reading_outcome reading (read_fields fields (parts_in 32 (option_map (λ text. text.now) reading.rest)))
+outcome_with reading fields =
+    reading_outcome reading (read_fields fields (parts_in 32 (option_map (λ text. text.now) reading.rest)))
 
 -- how many fields of a line are read before its kind is known
 abbrev pub known_fields : LineKind → ℕ

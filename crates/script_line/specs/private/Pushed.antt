@@ -26,5 +26,6 @@ joined_behind before mark (part ∷ parts) = before ++ part ++ joined_behind (ma
 -- the next field will stand behind a space or, where it is the first of its line, behind nothing.
 pub record PrintsFields (before after : List ℕ) (all more : List Field) (values rest : List Value) (old new : List ℕ) : Type 0 where
   pub shaped : IsShaped more rest
-  pub text : new ++ joined_behind after 32 (field_texts more rest) ≡ old ++ joined_behind before 32 (field_texts all values)
+  pub text : new ++ joined_behind after 32 (field_texts more rest)
+      ≡ old ++ joined_behind before 32 (field_texts all values)
   pub sized : All IsSized rest → All IsSized values
