@@ -5,7 +5,8 @@ script around it.
     python3 bench/core.py
 
 From the fastest run of so many commands that of none is taken off, which in deep queues has filled them. Making a command
-is in all figures.
+is in all figures. A run of few commands takes a millisecond beside the fifteen or more that a device takes to be made, so
+that only the fastest of many tries tells what the commands take.
 """
 
 from bytes import TRANSFER, plain
@@ -14,6 +15,7 @@ from measure import TOP, best_in_turn, build, doubled
 NAME = "core_bench"
 PROGRAM = TOP / "out" / NAME
 TRIES = 25
+TRIES_OF_SMALL = 150
 SMALL = ("one-place", "random", "ascending")
 DEEP = ("deep", "deep-on-one")
 MIB = 1 << 20
@@ -21,16 +23,16 @@ SPANS = 1_000
 READS = 16_000
 
 
-def fastest(runs):
+def fastest(runs, tries=TRIES):
     """The fastest runs of these workloads, each of so many rounds."""
-    return best_in_turn(TRIES, [([workload, str(rounds)], b"") for workload, rounds in runs], program=PROGRAM)
+    return best_in_turn(tries, [([workload, str(rounds)], b"") for workload, rounds in runs], program=PROGRAM)
 
 
-def table(workloads, counts):
+def table(workloads, counts, tries=TRIES):
     """Times workloads over these counts, each the double of the one before."""
     print("| commands | count | us each | ratio |\n|---|---|---|---|")
     for workload in workloads:
-        empty, *runs = fastest([(workload, count) for count in (0, *counts)])
+        empty, *runs = fastest([(workload, count) for count in (0, *counts)], tries)
         for count, _, seconds, ratio in doubled(zip(counts, runs), empty):
             print(f"| `{workload}` | {count} | {seconds / count * 1e6:.3f} | {ratio} |")
 
@@ -60,7 +62,7 @@ def reads():
 
 def main():
     build(NAME)
-    table(SMALL, (1_000, 2_000, 4_000, 8_000, 16_000))
+    table(SMALL, (1_000, 2_000, 4_000, 8_000, 16_000), TRIES_OF_SMALL)
     print("\nAims: at most 8 us each, a ratio of at most 2.2.\n")
     table(DEEP, (4_096, 8_192, 16_384))
     print("\nAims: at most 100 us each for `deep`; none for `deep-on-one`.\n")
