@@ -27,8 +27,10 @@ pub fn check_touched(alloc: Global, config: &Config, command: &Command) -> Resul
     ensures checked { (s : State) → MatchResult result
         (λ _. first_failing (checks_of config.now s command.now) ≡ None)
         (λ status. first_failing (checks_of config.now s command.now) ≡ Some status) }
-    ensures reads { IfOk result (λ touched. (ranges : List MemRange) → read_in touched ≡ reads_of config.now ranges command.now) }
-    ensures writes { IfOk result (λ touched. (ranges : List MemRange) → written_in touched ≡ writes_of config.now ranges command.now) }
+    ensures reads { IfOk result
+        (λ touched. (ranges : List MemRange) → read_in touched ≡ reads_of config.now ranges command.now) }
+    ensures writes { IfOk result
+        (λ touched. (ranges : List MemRange) → written_in touched ≡ writes_of config.now ranges command.now) }
     ensures few { IfOk result (λ touched. length (read_in touched) ≤ MAX_ITEMS) }
 {
     match command {
@@ -61,13 +63,6 @@ pub fn check_touched(alloc: Global, config: &Config, command: &Command) -> Resul
             prove!(plan.sources.as_slice().len() == from.as_slice().len());
             Ok(Touched::Copies(plan))
         }
-        Command::SetCreate { .. }
-        | Command::SetDelete { .. }
-        | Command::Load { .. }
-        | Command::Unload { .. }
-        | Command::Activate { .. }
-        | Command::Deactivate { .. }
-        | Command::Execute { .. }
-        | Command::Abort { .. } => unreachable!(),
+        _ => unreachable!(),
     }
 }

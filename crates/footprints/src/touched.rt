@@ -45,7 +45,8 @@ fn one_run(alloc: Global, range: ByteRange) -> Spans
 // The footprint of a command that touches these bytes and holds nothing.
 fn touching(alloc: Global, touched: Touched) -> Footprint
     requires { length (read_in touched) ≤ MAX_ITEMS }
-    ensures { result ≡ record { reads = runs_of (read_in touched); writes = runs_of (written_in touched); slot = None; set = None } }
+    ensures { result
+        ≡ record { reads = runs_of (read_in touched); writes = runs_of (written_in touched); slot = None; set = None } }
 {
     let (reads, writes) = match touched {
         Touched::Reads(range) => (one_run(alloc, range), no_bytes(alloc)),
