@@ -4,15 +4,17 @@ ghost use Rattle.cp_text.specs.HexText.{AreBytes, hex_text};
 ghost use Rattle.cp_text.specs.Parts.{joined_by};
 ghost use Rattle.script_line.specs.Field as grammar;
 ghost use Rattle.script_line.specs.Field.{IsShaped, queued_text, range_text, source_text, triple_text, value_text};
-ghost use Rattle.script_line.specs.Line.{fields_of};
+ghost use Rattle.script_line.specs.Line.{fields_of, identifier_value};
 ghost use Rattle.script_line.specs.Printing.{PrintsLine};
 ghost use Rattle.script_line.specs.Sized.{IsSized, IsSizedRange, IsSizedSource};
 ghost use Rattle.script_line.specs.Values.{content_view};
+ghost use Rattle.script_line.specs.declared.content.FieldContent.TheVariants as said;
 ghost use Rattle.script_line.specs.private.Outcomes.{field_view};
 ghost use Rattle.script_line.specs.private.Pushed.{PrintsFields, joined_behind};
 
-use crate::LineKind;
 use crate::field::Field;
+use crate::limits::QUEUE_CIDS;
+use crate::{LineKind, Version};
 use cp_base::{Access, Bytes, CopySource, MemRange, NoMemory, RangeList, SourceList};
 use cp_text::{push_hex, push_number, push_piece};
 
@@ -25,6 +27,31 @@ pub enum FieldContent<'a> {
     Data(&'a Bytes),
     Copied(&'a SourceList),
     Covered(&'a RangeList),
+}
+
+// What stands in the unused places of a list of contents.
+impl Default for FieldContent<'_> {
+    fn default() -> Self {
+        FieldContent::Count(0)
+    }
+}
+
+/// What a field says that names an identifier of the device: in version 2 by its queue.
+pub fn identifier<'a>(version: Version, cid: u32) -> FieldContent<'a>
+    ensures { content_view result ≡ identifier_value version cid }
+{
+    let cid = u64::from(cid);
+    match version {
+        Version::One => FieldContent::Count(cid),
+        Version::Two => FieldContent::Queued(cid / QUEUE_CIDS + 1, cid % QUEUE_CIDS),
+    }
+}
+
+/// What a field says that is a number of 32 bits.
+pub fn small<'a>(n: u32) -> FieldContent<'a>
+    ensures { result ≡ said.Count n }
+{
+    FieldContent::Count(u64::from(n))
 }
 
 // Adds a number.

@@ -6,8 +6,9 @@ ghost use Rattle.script_line.specs.Reading.{changed, header_kind, kind_of, read_
 ghost use Rattle.script_line.specs.declared.kind.LineKind.TheVariants as line_kind;
 ghost use Rattle.script_line.specs.private.Outcomes.{field_view, fields_behind, known_fields, read_rest, version_of};
 
+use crate::commands::send_fields;
 use crate::field::Field;
-use crate::limits::{MAX_32, MAX_64, MAX_CID, MAX_VALUE, VERSION_1, VERSION_2};
+use crate::limits::{MAX_64, MAX_CID, VERSION_1, VERSION_2};
 use crate::{TextCause, Version};
 use cp_base::{CommandWord, MAX_HOSTS, MAX_NAMESPACE, MAX_TRANSFER, NAMESPACES};
 use cp_text::split_part;
@@ -50,8 +51,6 @@ pub struct CutLine<'a> {
     pub rest: Option<&'a [u8]>,
 }
 
-const SEND: Field = Field::Word(b"send");
-
 const TAKE: Field = Field::Word(b"take");
 
 const SHOW: Field = Field::Word(b"show");
@@ -60,35 +59,7 @@ const NVM: Field = Field::Word(b"nvm");
 
 const MEM: Field = Field::Word(b"mem");
 
-const AT: Field = Field::Number(b"at=", 0, MAX_64);
-
-const LBA: Field = Field::Number(b"lba=", 0, MAX_64);
-
-const COUNT: Field = Field::Number(b"count=", 0, MAX_64);
-
-const LEN: Field = Field::Number(b"len=", 0, MAX_64);
-
-const NS: Field = Field::Number(b"ns=", 0, MAX_32);
-
-const SLOT: Field = Field::Number(b"slot=", 0, MAX_32);
-
-const SET: Field = Field::Number(b"set=", 0, MAX_32);
-
-const DATA: Field = Field::Hex(b"data=");
-
-const FROM: Field = Field::Sources(b"from=");
-
-const VALUE: Field = Field::Number(b"value=", 0, MAX_VALUE);
-
-const SIZE: Field = Field::Number(b"size=", 0, MAX_64);
-
-const P1: Field = Field::Number(b"p1=", 0, MAX_64);
-
-const P2: Field = Field::Number(b"p2=", 0, MAX_64);
-
-const BUDGET: Field = Field::Number(b"budget=", 0, MAX_64);
-
-const RANGES: Field = Field::Ranges(b"ranges=");
+pub const AT: Field = Field::Number(b"at=", 0, MAX_64);
 
 const HEADER: Field = Field::Word(b"nvmecp");
 
@@ -98,9 +69,9 @@ const SHOWN: Field = Field::Number(b"len=", 1, MAX_TRANSFER);
 
 const BLOCK: Field = Field::Number(b"block=", 0, MAX_64);
 
-const CID: Field = Field::Number(b"", 0, MAX_CID);
+pub const CID: Field = Field::Number(b"", 0, MAX_CID);
 
-const QUEUED: Field = Field::Identifier(b"");
+pub const QUEUED: Field = Field::Identifier(b"");
 
 /// The field of the identifier of a command that is sent.
 pub fn identifier_field(version: Version) -> Field
@@ -229,42 +200,6 @@ fn header_fields(version: Version) -> &'static [Field]
             Field::Number(b"depth=", 1, VERSION_2.depth),
             Field::Number(b"budget=", 1, VERSION_2.budget),
         ],
-    }
-}
-
-// The table of the fields of lines that send a command, with the field of the command's identifier and that of the
-// identifier that an Abort names.
-macro_rules! send_table {
-    ($word:expr, $sent:expr, $named:expr) => {
-        match $word {
-            CommandWord::NvmRead => &[SEND, $sent, Field::Word(b"nvmread"), NS, LBA, COUNT],
-            CommandWord::NvmWrite => &[SEND, $sent, Field::Word(b"nvmwrite"), NS, LBA, DATA],
-            CommandWord::NvmZeroes => &[SEND, $sent, Field::Word(b"nvmzeroes"), NS, LBA, COUNT],
-            CommandWord::NvmCopy => &[SEND, $sent, Field::Word(b"nvmcopy"), NS, LBA, FROM],
-            CommandWord::MemRead => &[SEND, $sent, Field::Word(b"memread"), NS, AT, LEN],
-            CommandWord::MemWrite => &[SEND, $sent, Field::Word(b"memwrite"), NS, AT, DATA],
-            CommandWord::MemFill => &[SEND, $sent, Field::Word(b"memfill"), NS, AT, LEN, VALUE],
-            CommandWord::MemCopy => &[SEND, $sent, Field::Word(b"memcopy"), NS, AT, FROM],
-            CommandWord::SetCreate => &[SEND, $sent, Field::Word(b"setcreate"), RANGES],
-            CommandWord::SetDelete => &[SEND, $sent, Field::Word(b"setdelete"), SET],
-            CommandWord::Load => &[SEND, $sent, Field::Word(b"load"), SLOT, SIZE, AT, DATA],
-            CommandWord::Unload => &[SEND, $sent, Field::Word(b"unload"), SLOT],
-            CommandWord::Activate => &[SEND, $sent, Field::Word(b"activate"), SLOT],
-            CommandWord::Deactivate => &[SEND, $sent, Field::Word(b"deactivate"), SLOT],
-            CommandWord::Execute => &[SEND, $sent, Field::Word(b"execute"), SLOT, SET, P1, P2, BUDGET],
-            CommandWord::Abort => &[SEND, $sent, Field::Word(b"abort"), $named],
-        }
-    };
-}
-
-// The fields of a line that sends a command, in their order.
-fn send_fields(version: Version, word: CommandWord) -> &'static [Field]
-    ensures fields { map field_view result.now ≡ fields_of (line_kind.Send version word) }
-    ensures some { 0 < length result.now }
-{
-    match version {
-        Version::One => send_table!(word, CID, Field::Number(b"cid=", 0, MAX_CID)),
-        Version::Two => send_table!(word, QUEUED, Field::Identifier(b"cid=")),
     }
 }
 

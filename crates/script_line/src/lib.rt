@@ -2,7 +2,7 @@
 //! printed as its text.
 #![tactic(auto)]
 
-mod command;
+mod commands;
 mod content;
 mod fault;
 mod field;
@@ -16,7 +16,7 @@ mod sending;
 mod tests;
 mod version;
 
-pub use command::command_of;
+pub use commands::command_of;
 pub use content::{FieldContent, push_line};
 pub use fault::{LineEnd, TextCause};
 pub use field::{FieldValue, RangeText, SourceText, Triple, identifier_at, number_at, queue_at};

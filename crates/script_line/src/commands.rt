@@ -1,4 +1,4 @@
-// The command that a line sends.
+// All that a script says of each command: the fields of its line, the command that they make, and what they say of it.
 ghost use Rattle.std.specs.Prelude.{◌≡◌, ℕ, ◌<◌, ◌≤◌, ◌++◌, ◌∷◌, [], List, true, map, length, All, IfOk};
 ghost use Rattle.cp_base.specs.Commands.{word_of};
 ghost use Rattle.script_line.specs.Field as grammar;
@@ -6,20 +6,95 @@ ghost use Rattle.script_line.specs.Field.{IsShaped};
 ghost use Rattle.script_line.specs.Fits.{ranges_fit, source_space, sources_fit, values_fit};
 ghost use Rattle.script_line.specs.Line.{command_fields, command_values, fields_of, send_values};
 ghost use Rattle.script_line.specs.Sized.{IsSized};
-ghost use Rattle.script_line.specs.Values.{identifier_at, number_at, range_view, source_view, value_view};
+ghost use Rattle.script_line.specs.Values.{content_view, identifier_at, number_at, range_view, source_view, value_view};
+ghost use Rattle.script_line.specs.declared.commands.TheConstants.{MOST_SAID};
 ghost use Rattle.script_line.specs.declared.kind.LineKind.TheVariants as line_kind;
 ghost use Rattle.script_line.specs.declared.limits.TheConstants.{MAX_32, MAX_CID, MAX_VALUE};
+ghost use Rattle.script_line.specs.private.Outcomes.{field_view};
 
 use crate::Version;
+use crate::content::FieldContent::{self, Copied, Count, Covered, Data};
+use crate::content::{identifier, small};
 use crate::field::{
-    FieldValue, RangeText, SourceText, identifier_at, number_at, ranges_at, sources_at,
+    Field, FieldValue, RangeText, SourceText, identifier_at, number_at, ranges_at, sources_at,
 };
+use crate::kind::{AT, CID, QUEUED};
+use crate::limits::{MAX_32, MAX_64, MAX_CID, MAX_VALUE};
+use arrayvec::ArrayVec;
 use cp_base::{Bytes, Command, CommandWord, CopySource, MemRange, NoMemory, SetRanges, SourceList};
 use std::alloc::Global;
 
+// The most fields that are no words in a line that sends a command.
+const MOST_SAID: usize = 6;
+
+const SEND: Field = Field::Word(b"send");
+
+const NS: Field = Field::Number(b"ns=", 0, MAX_32);
+
+const LBA: Field = Field::Number(b"lba=", 0, MAX_64);
+
+const COUNT: Field = Field::Number(b"count=", 0, MAX_64);
+
+const LEN: Field = Field::Number(b"len=", 0, MAX_64);
+
+const VALUE: Field = Field::Number(b"value=", 0, MAX_VALUE);
+
+const DATA: Field = Field::Hex(b"data=");
+
+const FROM: Field = Field::Sources(b"from=");
+
+const RANGES: Field = Field::Ranges(b"ranges=");
+
+const SET: Field = Field::Number(b"set=", 0, MAX_32);
+
+const SLOT: Field = Field::Number(b"slot=", 0, MAX_32);
+
+const SIZE: Field = Field::Number(b"size=", 0, MAX_64);
+
+const P1: Field = Field::Number(b"p1=", 0, MAX_64);
+
+const P2: Field = Field::Number(b"p2=", 0, MAX_64);
+
+const BUDGET: Field = Field::Number(b"budget=", 0, MAX_64);
+
+// The table of the fields of lines that send a command, with the field of the command's identifier and that of the
+// identifier that an Abort names.
+macro_rules! send_table {
+    ($word:expr, $sent:expr, $named:expr) => {
+        match $word {
+            CommandWord::NvmRead => &[SEND, $sent, Field::Word(b"nvmread"), NS, LBA, COUNT],
+            CommandWord::NvmWrite => &[SEND, $sent, Field::Word(b"nvmwrite"), NS, LBA, DATA],
+            CommandWord::NvmZeroes => &[SEND, $sent, Field::Word(b"nvmzeroes"), NS, LBA, COUNT],
+            CommandWord::NvmCopy => &[SEND, $sent, Field::Word(b"nvmcopy"), NS, LBA, FROM],
+            CommandWord::MemRead => &[SEND, $sent, Field::Word(b"memread"), NS, AT, LEN],
+            CommandWord::MemWrite => &[SEND, $sent, Field::Word(b"memwrite"), NS, AT, DATA],
+            CommandWord::MemFill => &[SEND, $sent, Field::Word(b"memfill"), NS, AT, LEN, VALUE],
+            CommandWord::MemCopy => &[SEND, $sent, Field::Word(b"memcopy"), NS, AT, FROM],
+            CommandWord::SetCreate => &[SEND, $sent, Field::Word(b"setcreate"), RANGES],
+            CommandWord::SetDelete => &[SEND, $sent, Field::Word(b"setdelete"), SET],
+            CommandWord::Load => &[SEND, $sent, Field::Word(b"load"), SLOT, SIZE, AT, DATA],
+            CommandWord::Unload => &[SEND, $sent, Field::Word(b"unload"), SLOT],
+            CommandWord::Activate => &[SEND, $sent, Field::Word(b"activate"), SLOT],
+            CommandWord::Deactivate => &[SEND, $sent, Field::Word(b"deactivate"), SLOT],
+            CommandWord::Execute => &[SEND, $sent, Field::Word(b"execute"), SLOT, SET, P1, P2, BUDGET],
+            CommandWord::Abort => &[SEND, $sent, Field::Word(b"abort"), $named],
+        }
+    };
+}
+
+/// The fields of a line that sends a command, in their order.
+pub fn send_fields(version: Version, word: CommandWord) -> &'static [Field]
+    ensures fields { map field_view result.now ≡ fields_of (line_kind.Send version word) }
+    ensures some { 0 < length result.now }
+{
+    match version {
+        Version::One => send_table!(word, CID, Field::Number(b"cid=", 0, MAX_CID)),
+        Version::Two => send_table!(word, QUEUED, Field::Identifier(b"cid=")),
+    }
+}
+
 /// The command of a send line of a script of this version, by its word and what its fields say, which keeps their
-/// limits. `NoMemory`
-/// where memory is wanting.
+/// limits. `NoMemory` where memory is wanting.
 pub fn command_of(
     alloc: Global,
     version: Version,
@@ -123,6 +198,73 @@ fn command_behind(
             cid: identifier_at(said, 0) as u32,
         }),
     }
+}
+
+/// What all fields of a line say that sends this command under an identifier of the device, in a script of this version.
+pub fn contents_of(
+    version: Version,
+    cid: u32,
+    command: &Command,
+) -> ArrayVec<FieldContent<'_>, MOST_SAID>
+    ensures { map content_view result.items ≡ send_values version cid command.now }
+{
+    let id = identifier(version, cid);
+    match command {
+        Command::NvmRead { ns, lba, count } => said(&[id, small(*ns), Count(*lba), Count(*count)]),
+        Command::NvmWrite { ns, lba, bytes } => said(&[id, small(*ns), Count(*lba), Data(bytes)]),
+        Command::NvmZeroes { ns, lba, count } => {
+            said(&[id, small(*ns), Count(*lba), Count(*count)])
+        }
+        Command::NvmCopy { ns, lba, from } => said(&[id, small(*ns), Count(*lba), Copied(from)]),
+        Command::MemRead { ns, at, len } => said(&[id, small(*ns), Count(*at), Count(*len)]),
+        Command::MemWrite { ns, at, bytes } => said(&[id, small(*ns), Count(*at), Data(bytes)]),
+        Command::MemFill { ns, at, len, value } => said(&[
+            id,
+            small(*ns),
+            Count(*at),
+            Count(*len),
+            Count(u64::from(*value)),
+        ]),
+        Command::MemCopy { ns, at, from } => said(&[id, small(*ns), Count(*at), Copied(from)]),
+        Command::SetCreate { ranges } => said(&[id, Covered(ranges.as_list())]),
+        Command::SetDelete { set } => said(&[id, small(*set)]),
+        Command::Load {
+            slot,
+            size,
+            at,
+            bytes,
+        } => said(&[id, small(*slot), Count(*size), Count(*at), Data(bytes)]),
+        Command::Unload { slot } => said(&[id, small(*slot)]),
+        Command::Activate { slot } => said(&[id, small(*slot)]),
+        Command::Deactivate { slot } => said(&[id, small(*slot)]),
+        Command::Execute {
+            slot,
+            set,
+            p1,
+            p2,
+            budget,
+        } => said(&[
+            id,
+            small(*slot),
+            small(*set),
+            Count(*p1),
+            Count(*p2),
+            Count(*budget),
+        ]),
+        Command::Abort { cid: named } => said(&[id, identifier(version, *named)]),
+    }
+}
+
+// What the fields of a line say, as a list that takes no memory.
+fn said<'a>(fields: &[FieldContent<'a>]) -> ArrayVec<FieldContent<'a>, MOST_SAID>
+    requires { length fields.now ≤ MOST_SAID }
+    ensures { result.items ≡ fields.now }
+{
+    let mut contents = ArrayVec::new();
+    for content in fields {
+        contents.push(*content);
+    }
+    contents
 }
 
 // The data that the last field says.

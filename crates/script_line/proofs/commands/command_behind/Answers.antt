@@ -6,7 +6,7 @@ use Rattle.script_line.specs.Fits.{values_fit}
 use Rattle.script_line.specs.Line.{command_fields, counts}
 use Rattle.script_line.specs.Values.{number_at, value_view}
 use Rattle.script_line.proofs.Shapes.{abort_names, execute_values, fill_values, load_values, mem_sources, nvm_sources, set_ranges, write_values}
-use Rattle.script_line.proofs.command.command_behind.Goals as goal
+use Rattle.script_line.proofs.commands.command_behind.Goals as goal
 
 pub returns-in-NvmWrite-clause-values : goal.returns-in-NvmWrite-clause-values
 returns-in-NvmWrite-clause-values c =
