@@ -1,5 +1,6 @@
 //! The state of a program between two instructions, beside the bytes that it may touch.
-ghost use Rattle.std.specs.Prelude.{◌≡◌, ◌<◌, ◌≤◌};
+ghost use Rattle.std.specs.Prelude.{◌≡◌, ◌/◌, ◌<◌, ◌≤◌};
+ghost use Rattle.cp_base.specs.declared.limits.TheConstants.{MAX_PROGRAM, UNIT};
 ghost use Rattle.bpf_model.specs.Machine.{frame_pointer};
 ghost use Rattle.bpf_model.specs.Value.{unsigned};
 
@@ -40,7 +41,7 @@ pub(crate) struct Processor {
     /// The place of the instruction that is executed.
     pub place: u32,
     ghost few: { free ≤ 7 },
-    ghost early: { place < 8192 },
+    ghost early: { place < MAX_PROGRAM / UNIT },
 }
 
 impl Processor {
