@@ -1,2 +1,3 @@
+pub mod Natures
 pub mod Passing
 pub mod Ranges

@@ -4,15 +4,12 @@ ghost use Rattle.cp_base.specs.Sharing.{is_outside, range_region};
 ghost use Rattle.device_model.specs.Checks.{refusal_of};
 ghost use Rattle.device_model.specs.State.{State};
 
-use crate::footprint;
 use crate::touched::executing;
-use copy_ranges::check_copy;
+use crate::{check_touched, footprint};
 use cp_base::{
-    Access, Bytes, Command, Config, CopySource, MAX_SPAN, MAX_TRANSFER, MemRange, RangeList,
-    SourceList, SpaceId, Spans,
+    Access, Bytes, Command, Config, CopySource, MemRange, Nature, RangeList, SourceList, SpaceId,
+    Spans,
 };
-use nvm_blocks::{blocks_to_range, write_to_range};
-use slm_bytes::bytes_to_range;
 use std::alloc::Global;
 
 // A device with 4,096 blocks of 512 bytes in NVM namespace 1 and as many bytes in memory namespace 1.
@@ -26,29 +23,16 @@ fn device() -> Option<Config> {
 fn is_checked(alloc: Global, config: &Config, command: &Command) -> bool
     ensures { IsTrue result → (s : State) × (refusal_of config.now s command.now ≡ None) }
 {
-    match command {
-        Command::NvmRead { ns, lba, count } => {
-            blocks_to_range(config, *ns, *lba, *count, MAX_TRANSFER).is_ok()
+    match command.nature() {
+        Nature::Reads | Nature::Writes | Nature::Copies => {
+            check_touched(alloc, config, command).is_ok()
         }
-        Command::NvmWrite { ns, lba, bytes } => {
-            write_to_range(config, *ns, *lba, bytes.len(), MAX_TRANSFER).is_ok()
-        }
-        Command::NvmZeroes { ns, lba, count } => {
-            blocks_to_range(config, *ns, *lba, *count, MAX_SPAN).is_ok()
-        }
-        Command::MemRead { ns, at, len } => {
-            bytes_to_range(config, *ns, *at, *len, MAX_TRANSFER).is_ok()
-        }
-        Command::MemWrite { ns, at, bytes } => {
-            bytes_to_range(config, *ns, *at, bytes.len(), MAX_TRANSFER).is_ok()
-        }
-        Command::MemFill { ns, at, len, .. } => {
-            bytes_to_range(config, *ns, *at, *len, MAX_SPAN).is_ok()
-        }
-        Command::NvmCopy { .. } | Command::MemCopy { .. } => {
-            check_copy(alloc, config, command).is_ok()
-        }
-        _ => false,
+        Nature::Executes { .. }
+        | Nature::Builds
+        | Nature::Arranges
+        | Nature::Deletes { .. }
+        | Nature::Stops { .. }
+        | Nature::Withdraws { .. } => false,
     }
 }
 

@@ -1,23 +1,32 @@
 // What each command touches.
-ghost use Rattle.std.specs.Prelude.{◌≡◌, ◌*◌, ◌≤◌, false, [], ◌∷◌, Some, None, map, length, unwrap_or, option_copied};
+ghost use Rattle.std.specs.Prelude.{◌≡◌, ◌≤◌, false, [], ◌∷◌, Some, None, map, length, unwrap_or, option_copied};
 ghost use Rattle.std.specs.List.{list_any};
-ghost use Rattle.cp_base.specs.Checks.{any_without_bytes, block_checks, byte_checks, first_failing, write_checks};
-ghost use Rattle.cp_base.specs.Configuration.{size_of};
+ghost use Rattle.cp_base.specs.Checks.{any_without_bytes};
 ghost use Rattle.cp_base.specs.Runs.{runs_of};
 ghost use Rattle.cp_base.specs.Sharing.{is_outside, range_region};
 ghost use Rattle.device_model.specs.Checks.{refusal_of};
 ghost use Rattle.device_model.specs.State.{State};
 ghost use Rattle.trail_model.specs.Footprints.{footprint_of, writable_ranges};
+ghost use Rattle.footprints.specs.Touched.{read_in, written_in};
 
+use crate::checked::check_touched;
 use crate::regions::{bytes_of, writable};
-use copy_ranges::{CopyPlan, check_copy};
+use copy_ranges::CopyPlan;
 use cp_base::{
-    ByteRange, Command, Config, Footprint, MAX_ITEMS, MAX_SPAN, MAX_TRANSFER, MemRange, RangeList,
-    Spans,
+    ByteRange, Command, Config, Footprint, MAX_ITEMS, MemRange, Nature, RangeList, Spans,
 };
-use nvm_blocks::{blocks_to_range, write_to_range};
-use slm_bytes::bytes_to_range;
 use std::alloc::Global;
+
+/// The bytes that a command touches which reads, writes or copies bytes.
+#[derive(Debug, Drop)]
+pub enum Touched {
+    /// It reads these.
+    Reads(ByteRange),
+    /// It writes these.
+    Writes(ByteRange),
+    /// It reads those of the sources and writes those of the destination.
+    Copies(CopyPlan),
+}
 
 // The runs of no bytes.
 fn no_bytes(alloc: Global) -> Spans
@@ -33,39 +42,22 @@ fn one_run(alloc: Global, range: ByteRange) -> Spans
     Spans::of(alloc, &[range]).unwrap()
 }
 
-// The footprint of a command that reads a range.
-fn reading(alloc: Global, range: ByteRange) -> Footprint
-    ensures { result ≡ record { reads = range ∷ []; writes = []; slot = None; set = None } }
+// The footprint of a command that touches these bytes and holds nothing.
+fn touching(alloc: Global, touched: Touched) -> Footprint
+    requires { length (read_in touched) ≤ MAX_ITEMS }
+    ensures { result ≡ record { reads = runs_of (read_in touched); writes = runs_of (written_in touched); slot = None; set = None } }
 {
+    let (reads, writes) = match touched {
+        Touched::Reads(range) => (one_run(alloc, range), no_bytes(alloc)),
+        Touched::Writes(range) => (no_bytes(alloc), one_run(alloc, range)),
+        Touched::Copies(plan) => (
+            Spans::of(alloc, plan.sources.as_slice()).unwrap(),
+            one_run(alloc, plan.to),
+        ),
+    };
     Footprint {
-        reads: one_run(alloc, range),
-        writes: no_bytes(alloc),
-        slot: None,
-        set: None,
-    }
-}
-
-// The footprint of a command that writes a range.
-fn writing(alloc: Global, range: ByteRange) -> Footprint
-    ensures { result ≡ record { reads = []; writes = range ∷ []; slot = None; set = None } }
-{
-    Footprint {
-        reads: no_bytes(alloc),
-        writes: one_run(alloc, range),
-        slot: None,
-        set: None,
-    }
-}
-
-// The footprint of a copy: it reads the sources and writes the destination.
-fn copying(alloc: Global, plan: CopyPlan) -> Footprint
-    requires { length plan.sources.items ≤ MAX_ITEMS }
-    ensures { result
-        ≡ record { reads = runs_of plan.sources.items; writes = plan.to ∷ []; slot = None; set = None } }
-{
-    Footprint {
-        reads: Spans::of(alloc, plan.sources.as_slice()).unwrap(),
-        writes: one_run(alloc, plan.to),
+        reads,
+        writes,
         slot: None,
         set: None,
     }
@@ -127,6 +119,7 @@ fn ranges_of(set: Option<&RangeList>) -> &[MemRange]
 /// What a command touches: the runs of the bytes that it reads and those of the bytes that it may write, and of
 /// an execution the slot and the set that it holds. An execution runs on the ranges of `set`, of which it reads
 /// all and may write those that are read-write. For any other command `set` means nothing. No memory is taken.
+#[tactic(auto, using(crate::proofs::Natures::executes, crate::proofs::Natures::touches_nothing))]
 pub fn footprint(
     alloc: Global,
     config: &Config,
@@ -138,47 +131,17 @@ pub fn footprint(
     requires inside { list_any (is_outside config.now) (map range_region (unwrap_or (option_copied set) [])) ≡ false }
     ensures { result ≡ footprint_of config.now (unwrap_or (option_copied set.entry) []) command.now }
 {
-    match command {
-        Command::NvmRead { ns, lba, count } => {
-            let range = blocks_to_range(config, *ns, *lba, *count, MAX_TRANSFER);
-            reading(alloc, range.unwrap())
+    match command.nature() {
+        Nature::Reads | Nature::Writes | Nature::Copies => {
+            touching(alloc, check_touched(alloc, config, command).unwrap())
         }
-        Command::NvmWrite { ns, lba, bytes } => {
-            let range = write_to_range(config, *ns, *lba, bytes.len(), MAX_TRANSFER);
-            writing(alloc, range.unwrap())
+        Nature::Executes { slot, set: number } => {
+            executing(alloc, config, slot, number, ranges_of(set))
         }
-        Command::NvmZeroes { ns, lba, count } => {
-            let range = blocks_to_range(config, *ns, *lba, *count, MAX_SPAN);
-            writing(alloc, range.unwrap())
-        }
-        Command::MemRead { ns, at, len } => {
-            let range = bytes_to_range(config, *ns, *at, *len, MAX_TRANSFER);
-            reading(alloc, range.unwrap())
-        }
-        Command::MemWrite { ns, at, bytes } => {
-            let range = bytes_to_range(config, *ns, *at, bytes.len(), MAX_TRANSFER);
-            writing(alloc, range.unwrap())
-        }
-        Command::MemFill { ns, at, len, .. } => {
-            let range = bytes_to_range(config, *ns, *at, *len, MAX_SPAN);
-            writing(alloc, range.unwrap())
-        }
-        Command::NvmCopy { from, .. } | Command::MemCopy { from, .. } => {
-            let plan = check_copy(alloc, config, command).unwrap();
-            prove!(plan.sources.as_slice().len() == from.as_slice().len());
-            copying(alloc, plan)
-        }
-        Command::Execute {
-            slot,
-            set: number,
-            ..
-        } => executing(alloc, config, *slot, *number, ranges_of(set)),
-        Command::SetCreate { .. }
-        | Command::SetDelete { .. }
-        | Command::Load { .. }
-        | Command::Unload { .. }
-        | Command::Activate { .. }
-        | Command::Deactivate { .. }
-        | Command::Abort { .. } => nothing(alloc),
+        Nature::Builds
+        | Nature::Arranges
+        | Nature::Deletes { .. }
+        | Nature::Stops { .. }
+        | Nature::Withdraws { .. } => nothing(alloc),
     }
 }
