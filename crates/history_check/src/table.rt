@@ -4,7 +4,7 @@ ghost use Rattle.history_model.specs.Sent.{named_in, next_ordinal, sends_of, sen
 ghost use Rattle.script_cmds.specs.declared.item.Item.TheVariants as item;
 ghost use Rattle.history_check.specs.Table.{HasGoneOn, IsAt, IsTable, is_sent, sends_by, sends_in, sent_in, waiting_of};
 
-use cp_base::{Command, NoMemory};
+use cp_base::{Command, Nature, NoMemory};
 use script_cmds::{HostPart, Item, Phase};
 use std::alloc::Global;
 use std::collections::BTreeMap;
@@ -74,23 +74,16 @@ fn last_under(cid: u32, outstanding: &[Outstanding]) -> Option<u32>
 fn named_by(command: &Command, outstanding: &[Outstanding]) -> Option<u32>
     ensures { result ≡ named_in (waiting_of outstanding.now) command.now }
 {
-    match command {
-        Command::Abort { cid } => last_under(*cid, outstanding),
-        Command::NvmRead { .. }
-        | Command::NvmWrite { .. }
-        | Command::NvmZeroes { .. }
-        | Command::NvmCopy { .. }
-        | Command::MemRead { .. }
-        | Command::MemWrite { .. }
-        | Command::MemFill { .. }
-        | Command::MemCopy { .. }
-        | Command::SetCreate { .. }
-        | Command::SetDelete { .. }
-        | Command::Load { .. }
-        | Command::Unload { .. }
-        | Command::Activate { .. }
-        | Command::Deactivate { .. }
-        | Command::Execute { .. } => None,
+    match command.nature() {
+        Nature::Withdraws { cid } => last_under(cid, outstanding),
+        Nature::Reads
+        | Nature::Writes
+        | Nature::Copies
+        | Nature::Executes { .. }
+        | Nature::Builds
+        | Nature::Arranges
+        | Nature::Deletes { .. }
+        | Nature::Stops { .. } => None,
     }
 }
 
