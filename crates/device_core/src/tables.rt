@@ -96,16 +96,7 @@ pub(crate) fn change_tables(
         Command::Unload { slot } => slots.unload(*slot),
         Command::Activate { slot } => slots.activate(*slot),
         Command::Deactivate { slot } => slots.deactivate(*slot),
-        Command::NvmRead { .. }
-        | Command::NvmWrite { .. }
-        | Command::NvmZeroes { .. }
-        | Command::NvmCopy { .. }
-        | Command::MemRead { .. }
-        | Command::MemWrite { .. }
-        | Command::MemFill { .. }
-        | Command::MemCopy { .. }
-        | Command::Execute { .. }
-        | Command::Abort { .. } => unreachable!(),
+        _ => unreachable!(),
     };
     done_or_refused(alloc, answer)
 }
