@@ -6,6 +6,7 @@ pub mod Fetched
 pub mod Finished
 pub mod Given
 pub mod Homecoming
+pub mod Natures
 pub mod Pickable
 pub mod Prepared
 pub mod Restaged

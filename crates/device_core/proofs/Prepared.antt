@@ -1,6 +1,10 @@
 -- What is prepared for a claim.
 use Rattle.std.proofs.Common.{◌≡◌, ℕ, ◌*◌, ◌≤◌, ◌==◌, nat_lt, get_or, Bool, true, false, ◌||◌, cond, if◌then◌else◌, List, [], ◌∷◌, ◌++◌, find, length, map, Option, Some, None, Result, Ok, Err, IfOk, IsSome, is_none, option_map, replicate, unwrap_or, vec_capacity, refl, sym, ap, subst, ◌∙◌, arith}
 use Rattle.std.specs.List.{AllByRecursion, list_any}
+use Rattle.std.proofs.lemmas.Bool.{true≢false}
+use Rattle.cp_base.specs.Commands.{nature_of}
+use Rattle.cp_base.specs.declared.commands.Nature.{Nature}
+use Rattle.cp_base.specs.declared.commands.Nature.TheVariants as nature
 use Rattle.std.specs.Option.{option_or}
 use Rattle.cp_base.specs.Answer.{Answer, only_status}
 use Rattle.cp_base.specs.Checks.{Check, any_without_bytes, first_failing, refuse}
@@ -70,18 +74,42 @@ told-none budget (end.BadJump place) = refl
 told-none budget (end.CallDepth place) = refl
 told-none budget end.BudgetSpent = refl
 
--- an answer has no more bytes than the first range that is read
-pub reply-first : (c : Configuration) (ranges : List MemRange) (x : Execution) (all : AllBytes) (cmd : Command) (reads : List Region) (r : Region)
+-- the answer to a command that reads has no more bytes than the first range that is read
+pub reply-first : (c : Configuration) (ranges : List MemRange) (x : Execution) (all : AllBytes) (cmd : Command) (reads : List Region) (r : Region) → nature_of cmd ≡ nature.Reads
     → reads ≡ (footprint_of c ranges cmd).reads → get_or reads 0 r ≡ r → length (written c x all cmd).answer.bytes ≤ r.len
-reply-first c ranges x all (command.NvmRead ns lba count) reads r same first =
+reply-first c ranges x all (command.NvmRead ns lba count) reads r is same first =
     let len = ap (λ (y : Region). y.len) (sym first ∙ ap (λ (rs : List Region). get_or rs 0 r) same) in
     omega (arith, len, length-gathered all (space.Nvm ns) (lba * c.block) (count * c.block))
-reply-first c ranges x all (command.MemRead ns at len) reads r same first =
+reply-first c ranges x all (command.MemRead ns at len) reads r is same first =
     let one = ap (λ (y : Region). y.len) (sym first ∙ ap (λ (rs : List Region). get_or rs 0 r) same) in
     omega (arith, one, length-gathered all (space.Mem ns) at len)
-reply-first c ranges x all (command.Execute slot set p1 p2 budget) reads r same first =
-    subst (λ (bytes : List ℕ). length bytes ≤ r.len) (sym (told-none budget _)) (omega arith)
-reply-first c ranges x all cmd reads r same first = omega arith
+reply-first c ranges x all cmd reads r is same first = absurd (cc)
+
+-- and such a range is there
+pub one-read : (c : Configuration) (ranges : List MemRange) (cmd : Command) → nature_of cmd ≡ nature.Reads → length (footprint_of c ranges cmd).reads ≡ 1
+one-read c ranges (command.NvmRead ns lba count) is = refl
+one-read c ranges (command.MemRead ns at len) is = refl
+one-read c ranges cmd is = absurd (cc)
+
+-- whether a command of this nature is answered with bytes
+abbrev pub is_reading : Nature → Bool
+is_reading nature.Reads = true
+is_reading nature.Writes = false
+is_reading nature.Copies = false
+is_reading (nature.Executes slot set) = false
+is_reading nature.Builds = false
+is_reading nature.Arranges = false
+is_reading (nature.Deletes set) = false
+is_reading (nature.Stops slot) = false
+is_reading (nature.Withdraws cid) = false
+
+-- any other answer has none
+pub no-reply : (c : Configuration) (x : Execution) (all : AllBytes) (cmd : Command) → is_reading (nature_of cmd) ≡ false → length (written c x all cmd).answer.bytes ≤ 0
+no-reply c x all (command.NvmRead ns lba count) other = absurd (true≢false other)
+no-reply c x all (command.MemRead ns at len) other = absurd (true≢false other)
+no-reply c x all (command.Execute slot set p1 p2 budget) other =
+    subst (λ (bytes : List ℕ). length bytes ≤ 0) (sym (told-none budget _)) (omega arith)
+no-reply c x all cmd other = omega arith
 
 -- ---- the program
 

@@ -1,5 +1,5 @@
 -- What a command that is done at once is told. No check tells that there is no memory.
-use Rattle.std.proofs.Common.{◌≡◌, ◌∙◌, ℕ, Bool, true, false, not, ◌&&◌, Option, Some, None, option_map, refl, subst, sym, ap, inl, inr}
+use Rattle.std.proofs.Common.{◌≡◌, ◌∙◌, ℕ, Bool, true, false, not, ◌&&◌, if◌then◌else◌, Option, Some, None, is_some, option_map, refl, subst, sym, ap, inl, inr}
 use Rattle.std.specs.Option.{option_or}
 use Rattle.std.proofs.lemmas.Bool.{true≢false}
 use Rattle.cp_base.specs.Answer.{Answer, only_status}
@@ -12,7 +12,7 @@ use Rattle.cp_base.specs.declared.replies.Status.TheVariants as status
 use Rattle.device_model.proofs.Told.{checks_tell, is_settled, outcome_tells}
 use Rattle.device_model.specs.Checks.{checks_of, refusal_of, refusal_of_program}
 use Rattle.device_model.specs.Effect.{effect_of}
-use Rattle.device_model.specs.Execution.{Outcome}
+use Rattle.device_model.specs.Execution.{Outcome, tells}
 use Rattle.device_model.specs.Memory.{moves_bytes}
 use Rattle.device_model.specs.State.{State}
 use Rattle.device_model.specs.Step.{outcome_of, refused_or_done}
@@ -52,6 +52,14 @@ refused-told c s cmd told aborts answer moves fails tells_it =
       rw (moves, refusal) refl,
       sym (ap (λ (o : Outcome). o.next) outcome),
     )
+
+-- an Abort
+pub abort-told : (c : Configuration) (s : State) (cmd : Command) (cid : ℕ) (aborts : Option ℕ) (answer : Answer) → cmd ≡ command.Abort cid
+    → answer ≡ tells status.Ok (if is_some aborts then 0 else 1) → IsDoneAtOnce (is_no_memory answer.status) c s cmd aborts answer s
+abort-told c s cmd cid aborts answer is tells_it =
+    subst (λ (x : Command). IsDoneAtOnce (is_no_memory answer.status) c s x aborts answer s) (sym is)
+    (subst (λ (b : Bool). IsDoneAtOnce b c s (command.Abort cid) aborts answer s) (sym (ap (λ (a : Answer). is_no_memory a.status) tells_it))
+    (tells_it, refl, refl))
 
 -- a command that moves bytes, where there is no memory
 pub full-told : (c : Configuration) (s : State) (cmd : Command) (aborts : Option ℕ) (answer : Answer) → moves_bytes cmd ≡ true

@@ -61,30 +61,6 @@ fn command_at(trail: &[Event], sent: u32) -> Option<&Arc<Command>>
     }
 }
 
-// Whether a command reads or writes bytes of namespaces.
-fn moves_bytes(command: &Command) -> bool
-    ensures { result ≡ moves_bytes command.now }
-{
-    match command {
-        Command::NvmRead { .. }
-        | Command::NvmWrite { .. }
-        | Command::NvmZeroes { .. }
-        | Command::NvmCopy { .. }
-        | Command::MemRead { .. }
-        | Command::MemWrite { .. }
-        | Command::MemFill { .. }
-        | Command::MemCopy { .. }
-        | Command::Execute { .. } => true,
-        Command::SetCreate { .. }
-        | Command::SetDelete { .. }
-        | Command::Load { .. }
-        | Command::Unload { .. }
-        | Command::Activate { .. }
-        | Command::Deactivate { .. }
-        | Command::Abort { .. } => false,
-    }
-}
-
 // Whether a command moves bytes and passes its checks.
 fn is_claimable(
     alloc: Global,
@@ -96,7 +72,7 @@ fn is_claimable(
     ensures { result
         ≡ (moves_bytes command.now && is_none (refusal_of config.now (tables_of slots.now sets.now) command.now)) }
 {
-    moves_bytes(command) && check_moving(alloc, config, slots, sets, command).is_ok()
+    command.nature().is_moving() && check_moving(alloc, config, slots, sets, command).is_ok()
 }
 
 // Picks a command of a host that waits.

@@ -25,7 +25,7 @@ use crate::keep::Keep;
 use crate::queues::post_in;
 use crate::tables::{change_tables, only, told};
 use core_model::{EntryPlaces, WaitingSubmit};
-use cp_base::{Command, Config, Reply, Status};
+use cp_base::{Command, Config, Nature, Reply, Status};
 use program_slots::Slots;
 use queue_pairs::Stage;
 use range_sets::Sets;
@@ -111,23 +111,14 @@ fn tell(
     ensures { IsDoneAtOnce (is_no_memory result.status) config.now (tables_of slots.old sets.old) command.now aborts
         (answer_of result) (tables_of slots.new sets.new) }
 {
-    match command {
-        Command::Abort { .. } => tell_abort(alloc, aborts),
-        Command::SetCreate { .. }
-        | Command::SetDelete { .. }
-        | Command::Load { .. }
-        | Command::Unload { .. }
-        | Command::Activate { .. }
-        | Command::Deactivate { .. } => tell_tables(alloc, config, slots, sets, command),
-        Command::NvmRead { .. }
-        | Command::NvmWrite { .. }
-        | Command::NvmZeroes { .. }
-        | Command::NvmCopy { .. }
-        | Command::MemRead { .. }
-        | Command::MemWrite { .. }
-        | Command::MemFill { .. }
-        | Command::MemCopy { .. }
-        | Command::Execute { .. } => tell_moving(alloc, config, slots, sets, command),
+    match command.nature() {
+        Nature::Withdraws { .. } => tell_abort(alloc, aborts),
+        Nature::Builds | Nature::Arranges | Nature::Deletes { .. } | Nature::Stops { .. } => {
+            tell_tables(alloc, config, slots, sets, command)
+        }
+        Nature::Reads | Nature::Writes | Nature::Copies | Nature::Executes { .. } => {
+            tell_moving(alloc, config, slots, sets, command)
+        }
     }
 }
 

@@ -10,7 +10,7 @@ ghost use Rattle.device_core.specs.Keep.{AreQueues, HasRoom, KeepsRoom, next_of,
 
 use crate::queues::{empty_queues, send_to, sent_under, take_from};
 use core_model::{ClaimPlaces, EntryPlaces, WaitingSubmit};
-use cp_base::{Command, Config, MAX_HOSTS, NoMemory};
+use cp_base::{Command, Config, MAX_HOSTS, Nature, NoMemory};
 use extents::Extents;
 use program_slots::Slots;
 use queue_pairs::{Queue, SendCause, TakeCause};
@@ -51,23 +51,16 @@ fn named_by(queues: &[Queue], by: u32, command: &Command) -> Option<u32>
     requires { (1 ≤ by) × (by ≤ length queues.now) }
     ensures { result ≡ names_in_queue (queue_of queues.now by) command.now }
 {
-    match command {
-        Command::Abort { cid } => sent_under(queues, by, *cid),
-        Command::NvmRead { .. }
-        | Command::NvmWrite { .. }
-        | Command::NvmZeroes { .. }
-        | Command::NvmCopy { .. }
-        | Command::MemRead { .. }
-        | Command::MemWrite { .. }
-        | Command::MemFill { .. }
-        | Command::MemCopy { .. }
-        | Command::SetCreate { .. }
-        | Command::SetDelete { .. }
-        | Command::Load { .. }
-        | Command::Unload { .. }
-        | Command::Activate { .. }
-        | Command::Deactivate { .. }
-        | Command::Execute { .. } => None,
+    match command.nature() {
+        Nature::Withdraws { cid } => sent_under(queues, by, cid),
+        Nature::Reads
+        | Nature::Writes
+        | Nature::Copies
+        | Nature::Executes { .. }
+        | Nature::Builds
+        | Nature::Arranges
+        | Nature::Deletes { .. }
+        | Nature::Stops { .. } => None,
     }
 }
 

@@ -19,7 +19,7 @@ use crate::checks::check_moving;
 use crate::keep::Keep;
 use crate::preparing::set_of;
 use core_model::WaitingSubmit;
-use cp_base::{Command, Config, Footprint};
+use cp_base::{Command, Config, Footprint, Nature};
 use footprints::footprint;
 use program_slots::Slots;
 use range_claims::Claims;
@@ -108,23 +108,11 @@ fn may_pick(alloc: Global, config: &Config, keep: &Keep, command: &Command) -> b
     requires { AllByRecursion (SetFits config.now) keep.now.sets }
     ensures { (count : ℕ) → result ≡ may_pick config.now (parts_of count keep.now) command.now }
 {
-    match command {
-        Command::SetDelete { set } => may_delete(&keep.kept, &keep.sets, *set),
-        Command::Deactivate { slot } => may_deactivate(&keep.kept, &keep.slots, *slot),
-        Command::SetCreate { .. }
-        | Command::Load { .. }
-        | Command::Unload { .. }
-        | Command::Activate { .. }
-        | Command::Abort { .. } => true,
-        Command::NvmRead { .. }
-        | Command::NvmWrite { .. }
-        | Command::NvmZeroes { .. }
-        | Command::NvmCopy { .. }
-        | Command::MemRead { .. }
-        | Command::MemWrite { .. }
-        | Command::MemFill { .. }
-        | Command::MemCopy { .. }
-        | Command::Execute { .. } => {
+    match command.nature() {
+        Nature::Deletes { set } => may_delete(&keep.kept, &keep.sets, set),
+        Nature::Stops { slot } => may_deactivate(&keep.kept, &keep.slots, slot),
+        Nature::Builds | Nature::Arranges | Nature::Withdraws { .. } => true,
+        Nature::Reads | Nature::Writes | Nature::Copies | Nature::Executes { .. } => {
             may_move(alloc, config, &keep.kept, &keep.slots, &keep.sets, command)
         }
     }

@@ -9,7 +9,7 @@ ghost use Rattle.trail_model.specs.Footprints.{carried_regions, footprint_of, is
 ghost use Rattle.device_core.specs.Portions.{comes_before, portion_ranges, read_portion, run_portions, set_portion, with_portion, written_portion, written_ranges};
 
 use cp_base::{
-    Access, ByteRange, Command, Config, Footprint, MemRange, NoMemory, RangeList, SpaceId,
+    Access, ByteRange, Command, Config, Footprint, MemRange, Nature, NoMemory, RangeList, SpaceId,
 };
 use slm_bytes::bytes_to_range;
 use std::alloc::Global;
@@ -145,23 +145,16 @@ fn of_runs(
 fn is_execution(command: &Command) -> bool
     ensures { result ≡ is_execution command.now }
 {
-    match command {
-        Command::Execute { .. } => true,
-        Command::NvmRead { .. }
-        | Command::NvmWrite { .. }
-        | Command::NvmZeroes { .. }
-        | Command::NvmCopy { .. }
-        | Command::MemRead { .. }
-        | Command::MemWrite { .. }
-        | Command::MemFill { .. }
-        | Command::MemCopy { .. }
-        | Command::SetCreate { .. }
-        | Command::SetDelete { .. }
-        | Command::Load { .. }
-        | Command::Unload { .. }
-        | Command::Activate { .. }
-        | Command::Deactivate { .. }
-        | Command::Abort { .. } => false,
+    match command.nature() {
+        Nature::Executes { .. } => true,
+        Nature::Reads
+        | Nature::Writes
+        | Nature::Copies
+        | Nature::Builds
+        | Nature::Arranges
+        | Nature::Deletes { .. }
+        | Nature::Stops { .. }
+        | Nature::Withdraws { .. } => false,
     }
 }
 

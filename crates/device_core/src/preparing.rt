@@ -27,7 +27,7 @@ use crate::fetching::{copy_read, take_written};
 use crate::portions::{portions_of, ranges_of};
 use bpf_decode::Decoded;
 use confined_view::Window;
-use cp_base::{ByteRange, Bytes, Command, Config, Footprint, NoMemory, RangeList};
+use cp_base::{ByteRange, Bytes, Command, Config, Footprint, Nature, NoMemory, RangeList};
 use extents::Extents;
 use job_run::Work;
 use program_slots::Slots;
@@ -51,23 +51,16 @@ struct Setup {
 pub(crate) fn set_of<'s>(sets: &'s Sets, command: &Command) -> Option<&'s RangeList>
     ensures { option_copied result ≡ set_in sets.now command.now }
 {
-    match command {
-        Command::Execute { set, .. } => sets.get(*set),
-        Command::NvmRead { .. }
-        | Command::NvmWrite { .. }
-        | Command::NvmZeroes { .. }
-        | Command::NvmCopy { .. }
-        | Command::MemRead { .. }
-        | Command::MemWrite { .. }
-        | Command::MemFill { .. }
-        | Command::MemCopy { .. }
-        | Command::SetCreate { .. }
-        | Command::SetDelete { .. }
-        | Command::Load { .. }
-        | Command::Unload { .. }
-        | Command::Activate { .. }
-        | Command::Deactivate { .. }
-        | Command::Abort { .. } => None,
+    match command.nature() {
+        Nature::Executes { set, .. } => sets.get(set),
+        Nature::Reads
+        | Nature::Writes
+        | Nature::Copies
+        | Nature::Builds
+        | Nature::Arranges
+        | Nature::Deletes { .. }
+        | Nature::Stops { .. }
+        | Nature::Withdraws { .. } => None,
     }
 }
 
@@ -79,22 +72,16 @@ fn reply_len(command: &Command, reads: &[ByteRange]) -> u64
         → reads.now ≡ (footprint_of c ranges command.now).reads
         → length (written c x all command.now).answer.bytes ≤ result }
 {
-    match command {
-        Command::NvmRead { .. } | Command::MemRead { .. } => reads[0].len(),
-        Command::NvmWrite { .. }
-        | Command::NvmZeroes { .. }
-        | Command::NvmCopy { .. }
-        | Command::MemWrite { .. }
-        | Command::MemFill { .. }
-        | Command::MemCopy { .. }
-        | Command::SetCreate { .. }
-        | Command::SetDelete { .. }
-        | Command::Load { .. }
-        | Command::Unload { .. }
-        | Command::Activate { .. }
-        | Command::Deactivate { .. }
-        | Command::Execute { .. }
-        | Command::Abort { .. } => 0,
+    match command.nature() {
+        Nature::Reads => reads[0].len(),
+        Nature::Writes
+        | Nature::Copies
+        | Nature::Executes { .. }
+        | Nature::Builds
+        | Nature::Arranges
+        | Nature::Deletes { .. }
+        | Nature::Stops { .. }
+        | Nature::Withdraws { .. } => 0,
     }
 }
 
@@ -177,23 +164,16 @@ fn setup_of(
         → option_copied set.entry ≡ set_in sets command.now
         → FitsSetup (execution_of (tables_of slots.now sets) command.now) pieces setup) }
 {
-    match command {
-        Command::Execute { slot, .. } => execution_setup(alloc, slots, *slot, set, pieces),
-        Command::NvmRead { .. }
-        | Command::NvmWrite { .. }
-        | Command::NvmZeroes { .. }
-        | Command::NvmCopy { .. }
-        | Command::MemRead { .. }
-        | Command::MemWrite { .. }
-        | Command::MemFill { .. }
-        | Command::MemCopy { .. }
-        | Command::SetCreate { .. }
-        | Command::SetDelete { .. }
-        | Command::Load { .. }
-        | Command::Unload { .. }
-        | Command::Activate { .. }
-        | Command::Deactivate { .. }
-        | Command::Abort { .. } => Ok(no_setup(alloc)),
+    match command.nature() {
+        Nature::Executes { slot, .. } => execution_setup(alloc, slots, slot, set, pieces),
+        Nature::Reads
+        | Nature::Writes
+        | Nature::Copies
+        | Nature::Builds
+        | Nature::Arranges
+        | Nature::Deletes { .. }
+        | Nature::Stops { .. }
+        | Nature::Withdraws { .. } => Ok(no_setup(alloc)),
     }
 }
 

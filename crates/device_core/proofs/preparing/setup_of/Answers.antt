@@ -1,4 +1,5 @@
-use Rattle.std.proofs.Common.{◌≡◌, ◌∙◌, List, None, IsSome, true, IfOk, option_copied, ap, sym, subst}
+-- The set and the program of an execution that passes its checks are there, and what is made of them fits it.
+use Rattle.std.proofs.Common.{rules, ◌≡◌, ◌∙◌, List, None, IsSome, true, IfOk, option_copied, ap, sym, subst}
 use Rattle.cp_base.specs.Configuration.{Configuration}
 use Rattle.cp_base.specs.Sets.{RangeSet}
 use Rattle.cp_base.specs.declared.commands.Command.{Command}
@@ -10,24 +11,44 @@ use Rattle.core_model.specs.Parts.{tables_of}
 use Rattle.device_core.specs.Preparing.{FitsSetup, set_in}
 use Rattle.device_core.specs.declared.preparing.Setup.{Setup}
 use Rattle.device_core.proofs.Carrying.{if-ok}
-use Rattle.device_core.proofs.Prepared.{set-there, setup-fits}
+use Rattle.device_core.proofs.Natures.{IsExecutionOf, executes}
+use Rattle.device_core.proofs.Prepared.{runnable, set-there, setup-fits}
 use Rattle.device_core.proofs.preparing.setup_of.Goals as goal
 
-pub returns-in-Execute-clause-fits : goal.returns-in-Execute-clause-fits
-returns-in-Execute-clause-fits c =
-    let x : Command = command.Execute c.in-Execute.slot c.in-Execute.set c.in-Execute.p1 c.in-Execute.p2 c.in-Execute.budget in
-    let is : c.args.command.now ≡ x = c.in-Execute.is in
-    let config : Configuration = c.requires.0 in
+-- a command that passes its checks, as the one that it is
+passes-as : (c : Configuration) (s : State) (cmd x : Command) → cmd ≡ x → refusal_of c s cmd ≡ None → refusal_of c s x ≡ None
+passes-as c s cmd x is passes = sym (ap (λ (y : Command). refusal_of c s y) is) ∙ passes
+
+pub execution_setup-requires-clause-runnable : goal.execution_setup-requires-clause-runnable
+execution_setup-requires-clause-runnable c =
+    let e : IsExecutionOf c.in-Executes.slot c.in-Executes.set c.args.command.now =
+    executes c.args.command.now c.in-Executes.slot c.in-Executes.set (sym c.nature.ensures ∙ c.in-Executes.is) in
+    let s : State = tables_of c.args.slots.now c.requires.1 in
+    (c.requires.1, runnable c.requires.0 s c.in-Executes.slot c.in-Executes.set e.0 e.1 e.2 (passes-as c.requires.0 s c.args.command.now _ e.3 c.requires.2))
+
+pub execution_setup-requires-clause-set : goal.execution_setup-requires-clause-set
+execution_setup-requires-clause-set c =
+    let e : IsExecutionOf c.in-Executes.slot c.in-Executes.set c.args.command.now =
+    executes c.args.command.now c.in-Executes.slot c.in-Executes.set (sym c.nature.ensures ∙ c.in-Executes.is) in
+    let s : State = tables_of c.args.slots.now c.requires.1 in
+    let there : IsSome (option_copied c.args.set) =
+    subst (λ o. IsSome o) (sym (c.requires.3 ∙ ap (λ (cmd : Command). set_in c.requires.1 cmd) e.3))
+    (set-there c.requires.0 s c.in-Executes.slot c.in-Executes.set e.0 e.1 e.2 (passes-as c.requires.0 s c.args.command.now _ e.3 c.requires.2)) in
+    search (rules, there)
+
+pub returns-in-Executes-clause-fits : goal.returns-in-Executes-clause-fits
+returns-in-Executes-clause-fits c =
+    let e : IsExecutionOf c.in-Executes.slot c.in-Executes.set c.args.command.now =
+    executes c.args.command.now c.in-Executes.slot c.in-Executes.set (sym c.nature.ensures ∙ c.in-Executes.is) in
     let sets : List RangeSet = c.requires.1 in
     let s : State = tables_of c.args.slots.now sets in
-    let passes : refusal_of config s x ≡ None = sym (ap (λ (cmd : Command). refusal_of config s cmd) is) ∙ c.requires.2 in
     let there : IsSome (option_copied c.args.set) =
-    subst (λ o. IsSome o) (sym (c.requires.3 ∙ ap (λ (cmd : Command). set_in sets cmd) is))
-    (set-there config s c.in-Execute.slot c.in-Execute.set c.in-Execute.p1 c.in-Execute.p2 c.in-Execute.budget passes) in
+    subst (λ o. IsSome o) (sym (c.requires.3 ∙ ap (λ (cmd : Command). set_in sets cmd) e.3))
+    (set-there c.requires.0 s c.in-Executes.slot c.in-Executes.set e.0 e.1 e.2 (passes-as c.requires.0 s c.args.command.now _ e.3 c.requires.2)) in
     subst
     (λ (cmd : Command). IfOk c.execution_setup.result (λ (setup : Setup). is_execution cmd ≡ true → (sets : List RangeSet)
     → option_copied c.args.set ≡ set_in sets cmd → FitsSetup (execution_of (tables_of c.args.slots.now sets) cmd) c.args.pieces setup))
-    (sym is)
+    (sym e.3)
     (if-ok _ _ c.execution_setup.result (λ setup fits is. fits)
-    (setup-fits c.execution_setup.result c.args.slots.now c.in-Execute.slot c.in-Execute.set c.in-Execute.p1 c.in-Execute.p2 c.in-Execute.budget c.args.pieces
+    (setup-fits c.execution_setup.result c.args.slots.now c.in-Executes.slot c.in-Executes.set e.0 e.1 e.2 c.args.pieces
     (option_copied c.args.set) c.execution_setup.ensures.windows c.execution_setup.ensures.set c.execution_setup.ensures.code c.execution_setup.ensures.stack there))
